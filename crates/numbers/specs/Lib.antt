@@ -1,0 +1,2 @@
+-- The definitions that the crates above share.
+pub mod Numbers

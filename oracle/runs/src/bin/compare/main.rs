@@ -1,0 +1,43 @@
+//! Compares the proved library with the repaired Rust, input by input.
+//!
+//! compare [full] [seed N] [planted]
+//!
+//! Without `full` it runs the share that the gate runs. `planted` puts one wrong digit into some of the proved
+//! library's answers, to show that a difference is found: the program must then fail.
+mod norm;
+mod square_root;
+
+use runs::comparison::Comparison;
+use runs::random::Random;
+
+/// What a run was asked for.
+pub struct Asked {
+    pub full: bool,
+    pub planted: bool,
+    pub seed: u64,
+}
+
+impl Asked {
+    /// The number of inputs: `gate` in the gate, `full` in a full run.
+    pub fn size(&self, gate: u64, full: u64) -> u64 {
+        if self.full { full } else { gate }
+    }
+}
+
+fn main() {
+    let mut asked = Asked { full: false, planted: false, seed: 1 };
+    let mut words = std::env::args().skip(1);
+    while let Some(word) = words.next() {
+        match (word.as_str(), word.as_str() == "seed") {
+            ("full", _) => asked.full = true,
+            ("planted", _) => asked.planted = true,
+            (_, true) => asked.seed = words.next().and_then(|n| n.parse().ok()).expect("seed takes a number"),
+            _ => panic!("compare [full] [seed N] [planted]"),
+        }
+    }
+    let mut comparison = Comparison::new();
+    let mut random = Random::new(asked.seed);
+    square_root::compare(&asked, &mut comparison, &mut random);
+    norm::compare(&asked, &mut comparison, &mut random);
+    comparison.finish();
+}
