@@ -1,2 +1,3 @@
 -- The definitions that the crates above share.
 pub mod Numbers
+pub mod Tables

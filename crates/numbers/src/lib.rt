@@ -1,1 +1,44 @@
-// Notation and laws of numbers that the crates above share. It has no functions.
+// What the crates above share: notation and laws of numbers and lists, and lists that are cleared.
+ghost use mathlib.Core.Path.{_≡_};
+ghost use mathlib.Core.List.{_++_};
+ghost use Prim.Native.Nat.{_-_, _≤_};
+ghost use lib.ListN.{length, take, replicate};
+ghost use Rattle.numbers.specs.Numbers.{+0};
+
+// The numbers from `start` on become 0.
+pub fn clear_from(a: &mut [u32], start: usize)
+    requires { ⌜ start ≤ length (now a) ⌝ }
+    ensures { λ _. ⌜ now (a .exit) ≡ take start (now (a .entry)) ++ replicate (length (now (a .entry)) - start) 0 ⌝ }
+{
+    let mut i = start;
+    while i < a.len() {
+        a[i] = 0;
+        i += 1;
+    }
+}
+
+// The floats from `start` on become +0.
+pub fn clear_floats_from(a: &mut [f64], start: usize)
+    requires { ⌜ start ≤ length (now a) ⌝ }
+    ensures { λ _. ⌜ now (a .exit) ≡ take start (now (a .entry)) ++ replicate (length (now (a .entry)) - start) +0 ⌝ }
+{
+    let mut i = start;
+    while i < a.len() {
+        a[i] = 0.0;
+        i += 1;
+    }
+}
+
+// All the numbers become 0.
+pub fn clear(a: &mut [u32])
+    ensures { λ _. ⌜ now (a .exit) ≡ replicate (length (now (a .entry))) 0 ⌝ }
+{
+    clear_from(a, 0)
+}
+
+// All the floats become +0.
+pub fn clear_floats(a: &mut [f64])
+    ensures { λ _. ⌜ now (a .exit) ≡ replicate (length (now (a .entry))) +0 ⌝ }
+{
+    clear_floats_from(a, 0)
+}

@@ -1,0 +1,15 @@
+-- The laws that the functions' proofs share.
+pub mod Links
+pub mod Slab
+pub mod Sums
+pub mod Bands
+pub mod Counts
+pub mod Sorting
+pub mod Passes
+pub mod Inside
+pub mod Compress
+pub mod Read
+pub mod Back
+pub mod Turn
+pub mod Walk
+pub mod Reverse

@@ -1,0 +1,26 @@
+-- Lists that are given by a rule: a table of a function, and a list made longer. Assumes nothing.
+use Prim.Native.Nat.{ℕ, zero, suc, _-_}
+use mathlib.Core.List.{List, [], _∷_, _++_}
+use mathlib.Core.Path.{_≡_, refl}
+use lib.ListN.{length, replicate}
+
+-- f 0, f 1, .., f (n - 1)
+unfoldable pub tabulate : {A : Type 0} → ℕ → (ℕ → A) → List A
+tabulate zero f = []
+tabulate (suc n) f = let h = f zero in h ∷ tabulate n (λ k. f (suc k))
+
+-- a list, and as many z behind it as make m in all
+unfoldable pub padded : {A : Type 0} → ℕ → A → List A → List A
+padded m z l = l ++ replicate (m - length l) z
+
+-- ---- examples
+
+-- the first three numbers
+three : tabulate 3 (λ k. k) ≡ 0 ∷ 1 ∷ 2 ∷ []
+unfolding tabulate
+three = refl
+
+-- two numbers, made four
+four : padded {A = ℕ} 4 0 (7 ∷ 8 ∷ []) ≡ 7 ∷ 8 ∷ 0 ∷ 0 ∷ []
+unfolding padded
+four = refl
