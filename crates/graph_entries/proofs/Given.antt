@@ -1,0 +1,33 @@
+-- Rows that are given and not refused are rows that the functions on rows can go by. Assumes nothing.
+use Prim.Native.Nat.{ℕ, suc, _+_}
+use mathlib.Core.Path.{_≡_}
+use mathlib.Core.List.{List}
+use native.Mathlib.Nat.{le-of-eq}
+use native.Mathlib.Omega.{arith}
+use lib.ListN.{length, getD}
+use lib.Ieee.{Float}
+use Rattle.refusals.proofs.Laws.{Fine}
+use Rattle.graph.specs.Rows.{Entry}
+use Rattle.graph.specs.Store.{Rowed, Summing, Compressed}
+use Rattle.graph.proofs.Read.{start-inside}
+use Rattle.graph_entries.specs.Outcomes.{rowsLent, compressedIn}
+
+-- the rows of a call with rows
+pub rowed-of : {n : ℕ} {starts columns : List ℕ} {weights : List Float} → length starts ≡ n + 1 → length weights ≡ length columns → Fine n starts columns → Rowed n starts columns weights
+rowed-of {n} {starts} {columns} long paired f = record {
+  count = long;
+  begins = f .begins;
+  rises = λ v h. f .rises v (omega arith);
+  ends = le-of-eq (f .ends);
+  paired = paired;
+  inside = λ k h. f .inside k (rw (f .ends) at h);
+}
+
+-- rows that can be gone by can be summed
+pub summing-of : {n : ℕ} {starts columns : List ℕ} {weights : List Float} → Rowed n starts columns weights → Summing n (length weights) starts
+summing-of z = record { count = z .count; rises = z .rises; inside = λ v h. rw (z .paired) (start-inside z (suc v) h) }
+
+-- what the sorts leave, as a call leaves it
+pub made : {r n m : ℕ} {rows : List (List Entry)} {s c : List ℕ} {w : List Float} {p : List ℕ} → Compressed r n rows m s c w p → rowsLent s c w p ≡ compressedIn n m rows
+unfolding compressedIn
+made h = cc

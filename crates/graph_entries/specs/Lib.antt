@@ -1,0 +1,2 @@
+-- The one outcome of each public call.
+pub mod Outcomes

@@ -1,0 +1,154 @@
+-- The laws of refusal numbers and of a call's outcome: what a proof of an entry cites. Assumes nothing.
+use Prim.Native.Nat.{ℕ, zero, suc, _+_, _<_, _≤_}
+use mathlib.Core.Bool.{Bool, true, false, not, _||_}
+use mathlib.Core.List.{List, [], _∷_}
+use mathlib.Core.Path.{_≡_, refl, sym, ap, _∙_}
+use native.Mathlib.Omega.{arith}
+use native.Mathlib.Nat.{not-suc-le-zero, le-of-suc-le-suc}
+use lib.ListN.{length, getD}
+use lib.Ieee.{Float}
+use lib.Dec.{eqb, leb, ltb}
+use borrow.Author.Tests.{eqb-true, ltb-false, leb-false, not-false}
+use Rattle.numbers.proofs.Tests.{neither}
+use Rattle.refusals.specs.Refusals.{_or_, _when_, any, falls, unlike, nodes, links, listed, lengths, sizes, rows, weights, linkTests}
+use Rattle.refusals.specs.Calls.{Left, left, call}
+
+-- ---- the first number
+
+-- r, the first, is not 0
+pub or-left : (a b : ℕ) {r : ℕ} → r ≡ a → (r ≡ 0 → ⊥) → r ≡ a or b
+unfolding _or_
+or-left zero b e h = absurd (h e)
+or-left (suc a) b e h = e
+
+-- p, the first, is 0, and r is the second
+pub or-right : (a b : ℕ) {p r : ℕ} → p ≡ a → p ≡ 0 → r ≡ b → r ≡ a or b
+unfolding _or_
+or-right zero b e h g = g
+or-right (suc a) b e h g = absurd (omega arith)
+
+-- neither applies where the whole is 0
+pub or-zero : (a b : ℕ) → a or b ≡ 0 → (a ≡ 0) × (b ≡ 0)
+unfolding _or_
+or-zero zero b h = (refl, h)
+or-zero (suc a) b h = absurd (omega arith)
+
+-- a test that does not apply
+pub when-zero : (k : ℕ) (b : Bool) → suc k when b ≡ 0 → b ≡ false
+unfolding _when_
+when-zero k true h = absurd (omega arith)
+when-zero k false h = refl
+
+-- ---- lengths
+
+-- the two numbers of each pair are equal
+abbrev pub Alike : List (ℕ × ℕ) → Type 0
+Alike [] = Unit
+Alike (p ∷ ps) = (p .0 ≡ p .1) × Alike ps
+
+-- what is under `unlike` fails where it fails
+unlike-false : (b : Bool) (ps : List (ℕ × ℕ)) → unlike b ps ≡ false → b ≡ false
+unfolding unlike
+unlike-false b [] h = h
+unlike-false b (p ∷ ps) h = neither b _ (unlike-false _ ps h) .0
+
+-- all lengths are as stated
+pub alike : (b : Bool) (ps : List (ℕ × ℕ)) → unlike b ps ≡ false → Alike ps
+unfolding unlike
+alike b [] h = tt
+alike b (p ∷ ps) h = (eqb-true _ _ (not-false _ (neither b _ (unlike-false _ ps h) .1)), alike _ ps h)
+
+-- ---- what a call has that is not refused
+
+-- by its sizes
+pub record Sized (n m s : ℕ) (ps : List (ℕ × ℕ)) : Type 0 where
+  pub nodes : n ≤ 65536
+  pub links : m ≤ 1048576
+  pub listed : s ≤ 65536
+  pub long : Alike ps
+
+-- from the number
+sized : (n m s : ℕ) (ps : List (ℕ × ℕ)) → sizes n m s ps ≡ 0 → Sized n m s ps
+unfolding nodes links listed lengths
+sized n m s ps h =
+    let a = or-zero _ _ h in
+    let b = or-zero _ _ (a .1) in
+    let d = or-zero _ _ (b .1) in
+    record {
+      nodes = ltb-false _ _ (when-zero 0 _ (a .0));
+      links = ltb-false _ _ (when-zero 1 _ (b .0));
+      listed = ltb-false _ _ (when-zero 1 _ (d .0));
+      long = alike false ps (when-zero 2 _ (d .1));
+    }
+
+-- no element is of the kind
+none : {A : Type 0} (p : A → Bool) (d : A) (xs : List A) → any p xs ≡ false → (i : ℕ) → i < length xs → p (getD xs i d) ≡ false
+unfolding any
+none p d [] h i b = absurd (not-suc-le-zero {n = i} b)
+none p d (x ∷ xs) h zero b = neither (p x) _ h .0
+none p d (x ∷ xs) h (suc i) b = none p d xs (neither (p x) _ h .1) i (le-of-suc-le-suc b)
+
+-- no number is below the one before
+steady : (s : List ℕ) → falls s ≡ false → (v : ℕ) → suc v < length s → getD s v 0 ≤ getD s (suc v) 0
+unfolding falls
+steady [] h v b = absurd (not-suc-le-zero {n = suc v} b)
+steady (a ∷ []) h v b = absurd (not-suc-le-zero {n = v} (le-of-suc-le-suc b))
+steady (a ∷ b ∷ s) h zero k = ltb-false b a (neither (ltb b a) _ h .0)
+steady (a ∷ b ∷ s) h (suc v) k = steady (b ∷ s) (neither (ltb b a) _ h .1) v (le-of-suc-le-suc k)
+
+-- by its rows
+pub record Fine (n : ℕ) (starts columns : List ℕ) : Type 0 where
+  pub begins : getD starts 0 0 ≡ 0
+  pub rises : (v : ℕ) → suc v < length starts → getD starts v 0 ≤ getD starts (suc v) 0
+  pub ends : getD starts n 0 ≡ length columns
+  pub inside : (i : ℕ) → i < length columns → getD columns i 0 < n
+
+-- from the number
+fine : (n : ℕ) (starts columns : List ℕ) → rows n starts columns ≡ 0 → Fine n starts columns
+unfolding rows
+fine n starts columns h =
+    let a = neither _ _ (when-zero 3 _ h) in
+    let b = neither _ _ (a .0) in
+    let d = neither _ _ (b .0) in
+    record {
+      begins = eqb-true _ _ (not-false _ (d .0));
+      rises = steady starts (d .1);
+      ends = eqb-true _ _ (not-false _ (b .1));
+      inside = λ i k. leb-false _ _ (none (λ v. leb n v) 0 columns (a .1) i k);
+    }
+
+-- a call with a list of links
+pub links-passed : (n m s : ℕ) (ps : List (ℕ × ℕ)) (ws : List Float) {r : ℕ} → r ≡ linkTests n m s ps ws → r ≡ 0 → Sized n m s ps
+links-passed n m s ps ws e h = sized n m s ps (or-zero _ _ (sym e ∙ h) .0)
+
+-- a call with rows
+pub rows-passed : (n m s : ℕ) (ps : List (ℕ × ℕ)) (starts columns : List ℕ) (ws : List Float) {r : ℕ}
+    → r ≡ sizes n m s ps or rows n starts columns or weights ws → r ≡ 0 → Sized n m s ps × Fine n starts columns
+rows-passed n m s ps starts columns ws e h =
+    let a = or-zero _ _ (sym e ∙ h) in
+    (sized n m s ps (a .0), fine n starts columns (or-zero _ _ (a .1) .0))
+
+-- ---- the outcome
+
+module _ {A B : Type 0} (answer : ℕ → A) (lent : B) (done : Left A B) where
+  -- r, the number, is not 0: the call is refused
+  pub refused : (k : ℕ) {r : ℕ} → r ≡ k → (r ≡ 0 → ⊥) → left (answer r) lent ≡ call k answer lent done
+  unfolding call
+  refused zero e h = absurd (h e)
+  refused (suc k) e h = rw e
+
+  -- it is 0: the call leaves x, as it should
+  pub accepted : (k : ℕ) {r : ℕ} {x : Left A B} → r ≡ k → r ≡ 0 → x ≡ done → x ≡ call k answer lent done
+  unfolding call
+  accepted k e h g = rw (sym e ∙ h) g
+
+-- Two calls leave the same where one equation says what they leave.
+pub agree : {A : Type 0} {x y z : A} → x ≡ z → y ≡ z → x ≡ y
+agree p q = p ∙ sym q
+
+-- And so where the equation leaves a part open that a relation R pins down in a call that is done, as `Root` does a norm.
+pub agree-by : {A B N : Type 0} (answer : ℕ → A) (lent : B) (done : N → Left A B) (R : N → Type 0) → ((p q : N) → R p → R q → p ≡ q)
+    → (k : ℕ) (p q : N) {x y : Left A B} → (k ≡ 0 → R p) → (k ≡ 0 → R q) → x ≡ call k answer lent (done p) → y ≡ call k answer lent (done q) → x ≡ y
+unfolding call
+agree-by answer lent done R one zero p q f g d e = d ∙ ap done (one p q (f refl) (g refl)) ∙ sym e
+agree-by answer lent done R one (suc k) p q f g d e = d ∙ sym e

@@ -1,0 +1,35 @@
+-- `refusals::refuse_settings` meets its contract. Assumes nothing.
+use Rattle.refusals.specs.Refusals.{settings}
+use borrow.Author.Needs.{needs}
+use Rattle.refusals.proofs.refuse_settings.Statement.{statement}
+use Rattle.refusals.proofs.refuse_settings.Tie as tie
+
+refuse-alpha-requires : tie.Need-refuse-alpha-requires
+refuse-alpha-requires c κs = search needs
+
+is-amount-requires : tie.Need-is-amount-requires
+is-amount-requires c κs = search needs
+
+is-amount-requires-2 : tie.Need-is-amount-requires-2
+is-amount-requires-2 c κs = search needs
+
+when-requires : tie.Need-when-requires
+when-requires c κs = search needs
+
+or-requires : tie.Need-or-requires
+or-requires c κs = search needs
+
+returns : tie.Need-returns
+unfolding settings
+returns c = cc
+
+pub refuse-settings-spec : {M : Type 1} → statement M
+refuse-settings-spec =
+    tie.close
+    (tie.spec
+    refuse-alpha-requires
+    is-amount-requires
+    is-amount-requires-2
+    when-requires
+    or-requires
+    returns)

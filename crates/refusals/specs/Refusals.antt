@@ -1,0 +1,111 @@
+-- Which calls are refused, and with which number: the table of refusals, row by row. A test is its number where it applies, and 0 where it does not.
+-- Assumes nothing.
+use Prim.Native.Nat.{ℕ, zero, suc, _+_}
+use mathlib.Core.Bool.{Bool, true, false, not, _&&_, _||_}
+use mathlib.Core.List.{List, [], _∷_}
+use lib.ListN.{length, getD}
+use lib.Dec.{ltb, leb, eqb}
+use lib.Ieee.{Float, inf, binary64, ofBits, lt, le}
+use Rattle.numbers.specs.Numbers.{+0, one}
+use Rattle.refusals.specs.declared.Settings.{Settings}
+
+infixr 20 _or_
+infix 25 _when_
+-- the first of two numbers that is not 0: the first test that applies
+unfoldable pub _or_ : ℕ → ℕ → ℕ
+zero or b = b
+suc a or b = suc a
+
+-- a number where a fact holds, and 0 where it does not
+unfoldable pub _when_ : ℕ → Bool → ℕ
+k when true = k
+k when false = 0
+
+-- whether one of a list is of a kind
+unfoldable pub any : {A : Type 0} → (A → Bool) → List A → Bool
+any p [] = false
+any p (x ∷ xs) = p x || any p xs
+
+-- whether b holds, or the two numbers of one of the pairs differ
+unfoldable pub unlike : Bool → List (ℕ × ℕ) → Bool
+unlike b [] = b
+unlike b (p ∷ ps) = unlike (b || not (eqb (p .0) (p .1))) ps
+
+-- whether the numbers fall somewhere
+unfoldable pub falls : List ℕ → Bool
+falls [] = false
+falls (a ∷ []) = false
+falls (a ∷ b ∷ ss) = ltb b a || falls (b ∷ ss)
+
+-- ---- numbers
+
+-- 1,048,576
+abbrev pub heaviest : Float
+heaviest = ofBits binary64 0x4130_0000_0000_0000
+
+-- a number from a to b; a NaN is none, and -0 counts as 0
+abbrev pub within : Float → Float → Float → Bool
+within a b x = le a x && le x b
+
+-- a finite number that is not below zero
+abbrev pub amount : Float → Bool
+amount x = le +0 x && lt x (inf false)
+
+-- a weight that 5 refuses
+abbrev pub wrong : Float → Bool
+wrong w = not (within +0 heaviest w)
+
+-- ---- the tests
+
+-- 1: more than 65,536 nodes
+unfoldable pub nodes : ℕ → ℕ
+nodes n = 1 when ltb 65536 n
+
+-- 2: more than 1,048,576 links
+unfoldable pub links : ℕ → ℕ
+links m = 2 when ltb 1048576 m
+
+-- 2: more than 65,536 sources or targets
+unfoldable pub listed : ℕ → ℕ
+listed s = 2 when ltb 65536 s
+
+-- 3: a lent buffer has another length than stated; each length goes with the one that is stated
+unfoldable pub lengths : List (ℕ × ℕ) → ℕ
+lengths ps = 3 when unlike false ps
+
+-- 4: starts do not begin at 0, fall somewhere, do not end at the link count, or a column is not below the node count
+unfoldable pub rows : ℕ → List ℕ → List ℕ → ℕ
+rows n starts columns =
+    4 when (not (eqb (getD starts 0 0) 0) || falls starts || not (eqb (getD starts n 0) (length columns)) || any (λ v. leb n v) columns)
+
+-- 5: a listed weight is NaN, infinite, below zero or above 1,048,576
+unfoldable pub weights : List Float → ℕ
+weights ws = 5 when any wrong ws
+
+-- 6: alpha not in 0..1
+unfoldable pub alphas : Float → ℕ
+alphas a = 6 when not (within +0 one a)
+
+-- 6: the same of the settings; epsilon or queue threshold not finite or below zero; max_pushes above 1,000,000,000
+unfoldable pub settings : Settings → ℕ
+settings s =
+    alphas (s .alpha)
+    or 6 when (not (amount (s .epsilon)) || not (amount (s .«queue_threshold»)) || ltb 1000000000 (s .«max_pushes»))
+
+-- 7: a precision not finite or below zero
+unfoldable pub precision : Float → ℕ
+precision p = 7 when not (amount p)
+
+-- ---- the first number that applies, by the kind of call. A call with settings or a precision goes on: `.. or settings s or precision p`
+
+-- 1 to 3: n nodes, m links, s sources or targets, and lengths ps
+abbrev pub sizes : ℕ → ℕ → ℕ → List (ℕ × ℕ) → ℕ
+sizes n m s ps = nodes n or links m or listed s or lengths ps
+
+-- with m links in a list, of weights ws
+abbrev pub linkTests : ℕ → ℕ → ℕ → List (ℕ × ℕ) → List Float → ℕ
+linkTests n m s ps ws = sizes n m s ps or weights ws
+
+-- with rows
+abbrev pub rowTests : ℕ → ℕ → List (ℕ × ℕ) → List ℕ → List ℕ → List Float → ℕ
+rowTests n s ps starts columns ws = sizes n (length columns) s ps or rows n starts columns or weights ws

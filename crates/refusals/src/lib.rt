@@ -1,0 +1,187 @@
+// The tests of the public calls: which number a call is refused with.
+
+ghost use mathlib.Core.Path.{_≡_};
+ghost use mathlib.Core.Bool.{not, _||_};
+ghost use lib.ListN.{length, getD};
+ghost use lib.Dec.{leb};
+ghost use Rattle.refusals.specs.Refusals.{_or_, _when_, nodes, links, listed, rows, weights, alphas, settings, precision, amount, wrong, falls, any, within};
+
+// The five settings of a solve.
+#[repr(C)]
+pub struct Settings {
+    pub alpha: f64,
+    pub epsilon: f64,
+    pub queue_threshold: f64,
+    pub max_pushes: u64,
+    pub adaptive_threshold: bool,
+}
+
+// The first of two numbers that is not 0.
+pub fn or(a: u32, b: u32) -> u32
+    ensures { λ r. ⌜ r ≡ (a or b) ⌝ }
+{
+    if a != 0 { a } else { b }
+}
+
+// k where b holds, else 0.
+pub fn when(k: u32, b: bool) -> u32
+    ensures { λ r. ⌜ r ≡ (k when b) ⌝ }
+{
+    if b { k } else { 0 }
+}
+
+// Whether x is from a to b.
+fn is_within(a: f64, b: f64, x: f64) -> bool
+    ensures { λ r. ⌜ r ≡ within a b x ⌝ }
+{
+    (a <= x) & (x <= b)
+}
+
+// Whether x is finite and not below zero.
+fn is_amount(x: f64) -> bool
+    ensures { λ r. ⌜ r ≡ amount x ⌝ }
+{
+    (0.0 <= x) & (x < 1.0 / 0.0)
+}
+
+// Whether a weight is not from 0 to 1,048,576.
+fn is_wrong(w: f64) -> bool
+    ensures { λ r. ⌜ r ≡ wrong w ⌝ }
+{
+    !is_within(0.0, 1048576.0, w)
+}
+
+// Whether one of the weights is wrong.
+fn any_wrong(weights: &[f64]) -> bool
+    ensures { λ r. ⌜ r ≡ any wrong (now (weights .entry)) ⌝ }
+{
+    let mut i: usize = 0;
+    while i < weights.len() {
+        if is_wrong(weights[i]) {
+            return true;
+        }
+        i += 1;
+    }
+    false
+}
+
+// Whether one of the columns is not below n.
+fn any_past(n: u32, columns: &[u32]) -> bool
+    ensures { λ r. ⌜ r ≡ any (λ v. leb n v) (now (columns .entry)) ⌝ }
+{
+    let mut i: usize = 0;
+    while i < columns.len() {
+        if n <= columns[i] {
+            return true;
+        }
+        i += 1;
+    }
+    false
+}
+
+// Whether the numbers fall somewhere.
+fn any_fall(starts: &[u32]) -> bool
+    ensures { λ r. ⌜ r ≡ falls (now (starts .entry)) ⌝ }
+{
+    let mut i: usize = 0;
+    while i + 1 < starts.len() {
+        if starts[i + 1] < starts[i] {
+            return true;
+        }
+        i += 1;
+    }
+    false
+}
+
+// What stands at i, or 0 past the end.
+fn at(a: &[u32], i: usize) -> u32
+    ensures { λ r. ⌜ r ≡ getD (now (a .entry)) i 0 ⌝ }
+{
+    if i < a.len() { a[i] } else { 0 }
+}
+
+// 4: the rows of n nodes.
+fn refuse_starts(n: u32, starts: &[u32], columns: &[u32]) -> u32
+    ensures { λ r. ⌜ r ≡ rows n (now (starts .entry)) (now (columns .entry)) ⌝ }
+{
+    when(
+        4,
+        (at(starts, 0) != 0)
+            | any_fall(starts)
+            | (at(starts, n as usize) as usize != columns.len())
+            | any_past(n, columns),
+    )
+}
+
+// 6: alpha.
+pub fn refuse_alpha(a: f64) -> u32
+    ensures { λ r. ⌜ r ≡ alphas a ⌝ }
+{
+    when(6, !is_within(0.0, 1.0, a))
+}
+
+// 6: the settings of a solve.
+pub fn refuse_settings(s: Settings) -> u32
+    ensures { λ r. ⌜ r ≡ settings s ⌝ }
+{
+    or(
+        refuse_alpha(s.alpha),
+        when(
+            6,
+            !is_amount(s.epsilon) | !is_amount(s.queue_threshold) | (1_000_000_000 < s.max_pushes),
+        ),
+    )
+}
+
+// 7: a precision.
+pub fn refuse_precision(p: f64) -> u32
+    ensures { λ r. ⌜ r ≡ precision p ⌝ }
+{
+    when(7, !is_amount(p))
+}
+
+// 1, 2 or 3: n nodes, m links, s sources or targets, and whether a lent buffer has another length than stated.
+pub fn refuse_sizes(n: usize, m: usize, s: usize, unlike: bool) -> u32
+    ensures { λ r. ⌜ r ≡ (nodes n or links m or listed s or 3 when unlike) ⌝ }
+{
+    if 65536 < n {
+        return 1;
+    }
+    if 1_048_576 < m {
+        return 2;
+    }
+    if 65536 < s {
+        return 2;
+    }
+    if unlike { 3 } else { 0 }
+}
+
+// The first number of a call with a list of links.
+pub fn refuse_links(n: usize, m: usize, s: usize, unlike: bool, ws: &[f64]) -> u32
+    ensures { λ r. ⌜ r ≡ ((nodes n or links m or listed s or 3 when unlike) or weights (now (ws .entry))) ⌝ }
+{
+    let r = refuse_sizes(n, m, s, unlike);
+    if r != 0 {
+        return r;
+    }
+    when(5, any_wrong(ws))
+}
+
+// The first number of a call with rows.
+pub fn refuse_rows(
+    n: u32,
+    s: usize,
+    unlike: bool,
+    starts: &[u32],
+    columns: &[u32],
+    ws: &[f64],
+) -> u32
+    ensures { λ r. ⌜ r ≡ ((nodes n or links (length (now (columns .entry))) or listed s or 3 when unlike)
+        or rows n (now (starts .entry)) (now (columns .entry)) or weights (now (ws .entry))) ⌝ }
+{
+    let r = refuse_sizes(n as usize, columns.len(), s, unlike);
+    if r != 0 {
+        return r;
+    }
+    or(refuse_starts(n, starts, columns), when(5, any_wrong(ws)))
+}
