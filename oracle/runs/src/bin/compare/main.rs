@@ -4,6 +4,7 @@
 //!
 //! Without `full` it runs the share that the gate runs. `planted` puts one wrong digit into some of the proved
 //! library's answers, to show that a difference is found: the program must then fail.
+mod graph;
 mod norm;
 mod square_root;
 
@@ -28,10 +29,10 @@ fn main() {
     let mut asked = Asked { full: false, planted: false, seed: 1 };
     let mut words = std::env::args().skip(1);
     while let Some(word) = words.next() {
-        match (word.as_str(), word.as_str() == "seed") {
-            ("full", _) => asked.full = true,
-            ("planted", _) => asked.planted = true,
-            (_, true) => asked.seed = words.next().and_then(|n| n.parse().ok()).expect("seed takes a number"),
+        match word.as_str() {
+            "full" => asked.full = true,
+            "planted" => asked.planted = true,
+            "seed" => asked.seed = words.next().and_then(|n| n.parse().ok()).expect("seed takes a number"),
             _ => panic!("compare [full] [seed N] [planted]"),
         }
     }
@@ -39,5 +40,6 @@ fn main() {
     let mut random = Random::new(asked.seed);
     square_root::compare(&asked, &mut comparison, &mut random);
     norm::compare(&asked, &mut comparison, &mut random);
+    graph::compare(&asked, &mut comparison, &mut random);
     comparison.finish();
 }

@@ -1,4 +1,7 @@
 //! Measures the proved library beside the Rust, in one run. A ratio above 1 says that the proved library takes longer.
+mod graph;
+mod heap;
+
 use runs::entries;
 use runs::random::Random;
 use runs::timing::interleaved;
@@ -10,6 +13,7 @@ fn main() {
     let mut random = Random::new(1);
     square_root(&mut random);
     norm(&mut random);
+    graph::measure(&mut random);
 }
 
 /// One call of the square root, against the machine's own instruction.

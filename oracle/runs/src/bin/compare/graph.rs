@@ -1,0 +1,131 @@
+//! `from_edges`, `from_matrix`, `transpose` and `row_sums` against the Rust's `PushGraph` and `CompressedSparseRow`,
+//! and against the refusals of docs/RULES.md. Each call is compared whole: what it returns, and every word of every buffer.
+mod call;
+mod damaged;
+mod entry;
+mod expected;
+mod limits;
+mod lists;
+mod smaller;
+mod sound;
+
+use crate::Asked;
+use call::{Call, Outcome};
+use entry::{Entry, ENTRIES};
+use repaired::graph::PushGraph;
+use runs::comparison::Comparison;
+use runs::random::Random;
+use smaller::smaller;
+use sound::{MOST_LINKS, MOST_NODES};
+
+pub fn compare(asked: &Asked, comparison: &mut Comparison, random: &mut Random) {
+    small_lists(asked, comparison);
+    refusals(asked, comparison, random);
+    random_lists(asked, comparison, random);
+    random_rows(asked, comparison, random);
+    largest(comparison);
+}
+
+fn small_lists(asked: &Asked, comparison: &mut Comparison) {
+    for links in 0..=asked.size(3, 4) as u32 {
+        let name = format!("graph, every list of up to 3 nodes and {links} links");
+        comparison.kind(&name, lists::every(3, links), of_links, smaller);
+    }
+}
+
+fn random_lists(asked: &Asked, comparison: &mut Comparison, random: &mut Random) {
+    let classes = [
+        (1, 8, asked.size(2_000, 50_000)),
+        (8, 40, asked.size(20_000, 500_000)),
+        (64, 400, asked.size(3_000, 60_000)),
+        (1_000, 10_000, asked.size(100, 3_000)),
+        (MOST_NODES, 100_000, asked.size(10, 300)),
+        (MOST_NODES, MOST_LINKS, asked.size(3, 60)),
+    ];
+    for (nodes, links, count) in classes {
+        // One in three is of exactly the size.
+        let inputs = (0..count).map(|number| lists::random(random, nodes, links, number % 3 == 0));
+        let name = format!("graph, random lists of up to {nodes} nodes and {links} links");
+        comparison.kind(&name, inputs, of_links, smaller);
+    }
+    for nodes in [1, 2, 3, 10, 100, 1_000, MOST_NODES - 1, MOST_NODES] {
+        let turns = if nodes > 1_000 { asked.size(1, 5) } else { asked.size(5, 50) };
+        let inputs = (0..turns).flat_map(|_| lists::planned(random, nodes));
+        comparison.kind(&format!("graph, planned lists of {nodes} nodes"), inputs, of_links, smaller);
+    }
+}
+
+fn random_rows(asked: &Asked, comparison: &mut Comparison, random: &mut Random) {
+    let classes = [
+        (8, 40, asked.size(20_000, 500_000)),
+        (1_000, 10_000, asked.size(100, 3_000)),
+        (MOST_NODES, MOST_LINKS, asked.size(3, 60)),
+    ];
+    for (nodes, links, count) in classes {
+        let inputs = (0..count).map(|number| lists::rows(random, nodes, links, number % 3 == 0));
+        let name = format!("graph, random rows of up to {nodes} nodes and {links} links");
+        comparison.kind(&name, inputs, of_rows, smaller);
+    }
+}
+
+fn refusals(asked: &Asked, comparison: &mut Comparison, random: &mut Random) {
+    for entry in ENTRIES {
+        let mut kind = |name: &str, inputs: &mut dyn Iterator<Item = Call>| {
+            comparison.kind(&format!("{}, {name}", entry.name()), inputs, of_call, smaller);
+        };
+        kind("limits of weight, in each place", &mut limits::weights(entry).into_iter());
+        kind("each length, and each two", &mut limits::lengths(entry).into_iter());
+        kind("each damage", &mut damaged::singles(entry).into_iter());
+        kind("each two damages", &mut damaged::pairs(entry));
+        let all = damaged::damages(entry);
+        let several = (0..asked.size(2_000, 50_000)).map(|_| damaged::several(random, entry, &all));
+        kind("several damages", &mut several.into_iter());
+        if entry.takes_rows() {
+            kind("every rows of up to 3 nodes and 3 links, sound or not", &mut limits::every_rows(entry, 3, 3));
+        }
+    }
+}
+
+/// These come last: what fails elsewhere too is found there at a smaller input.
+fn largest(comparison: &mut Comparison) {
+    for entry in ENTRIES {
+        comparison.kind(&format!("{}, limits of size", entry.name()), limits::sizes(entry), of_call, smaller);
+    }
+    comparison.kind("graph, edges done by hand", limits::by_hand().into_iter(), of_edge, |_| Vec::new());
+}
+
+/// A call of `from_edges`, and the three others on the rows that the Rust makes of it.
+fn of_links(call: &Call) -> Option<String> {
+    if expected::refusal(call) != 0 {
+        return of_call(call);
+    }
+    let graph = expected::graph_of_links(call);
+    call.difference(&expected::built(&graph.adjacency, call.links())).or_else(|| on_rows_of(&graph))
+}
+
+/// The three entries that take rows, on the rows of a call of any one of them.
+fn of_rows(call: &Call) -> Option<String> {
+    if expected::refusal(call) != 0 {
+        return of_call(call);
+    }
+    on_rows_of(&PushGraph::from_matrix(&expected::matrix(call)))
+}
+
+fn on_rows_of(graph: &PushGraph) -> Option<String> {
+    let rows = &graph.adjacency;
+    let differs = |entry: Entry, outcome: Outcome| Call::on_matrix(entry, rows).difference(&outcome);
+    differs(Entry::FromMatrix, expected::graph(graph))
+        .or_else(|| differs(Entry::Transpose, expected::transposed(&rows.transpose())))
+        .or_else(|| differs(Entry::RowSums, expected::sums(rows.row_sums())))
+}
+
+/// One call of any kind.
+fn of_call(call: &Call) -> Option<String> {
+    call.difference(&expected::outcome(call))
+}
+
+/// A call whose number docs/RULES.md gives: what is expected of damaged calls is held to it too.
+fn of_edge((call, number): &(Call, u32)) -> Option<String> {
+    let read = expected::refusal(call);
+    (read != *number).then(|| format!("expected.rs gives {read}, docs/RULES.md {number}")).or_else(|| of_call(call))
+}
