@@ -1,4 +1,6 @@
 -- The laws that the crates above share.
 pub mod Tests
+pub mod Choice
+pub mod Order
 pub mod Tables
 pub mod Over

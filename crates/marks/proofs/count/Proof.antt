@@ -1,0 +1,67 @@
+-- `marks::count` meets its contract. The invariant: n is the count of the words passed, and at most 64 for each. Assumes nothing.
+use mathlib.Core.Path.{_≡_, refl, sym, ap, _∙_}
+use Prim.Native.Nat.{ℕ, _+_, _*_, _-_, _≤_}
+use native.Mathlib.Omega.{arith}
+use lib.ListN.{length, getD, take}
+use lib.Seq.{take-all}
+use lib.Count.{ones, ones-le}
+use borrow.Author.Needs.{needs}
+use Rattle.marks.specs.Marks.{total}
+use Rattle.marks.proofs.Total.{total-more}
+use Rattle.marks.proofs.count.Statement.{statement}
+use Rattle.marks.proofs.count.Tie as tie
+
+abbrev Inv-loop : tie.InvT-loop
+Inv-loop words n₀ i₀ n i = (i ≤ length words) × (n ≤ 64 * i) × (n ≡ total (take i words))
+
+abbrev μ-loop : tie.MeasureT-loop
+μ-loop words n₀ i₀ n i = length words - i
+
+loop-holds : tie.Need-loop-holds Inv-loop μ-loop
+loop-holds c = (omega arith, omega arith, unfold total in refl)
+
+mul-n : tie.Need-mul-n Inv-loop μ-loop
+mul-n c = search needs
+
+shared-slice-read-n : tie.Need-shared-slice-read-n Inv-loop μ-loop
+shared-slice-read-n c = search needs
+
+add-n : tie.Need-add-n Inv-loop μ-loop
+add-n c =
+    let l = c .before .before .loop in
+    let ws = c .before .before .before .args .words .now in
+    let w = getD ws (l .i) 0 in
+    let b = ones-le 64 w (c .shared-slice-known .given (l .i) .fits) in
+    omega (arith, b)
+
+add-i : tie.Need-add-i Inv-loop μ-loop
+add-i c = search needs
+
+loop-less : tie.Need-loop-less Inv-loop μ-loop
+loop-less c = search needs
+
+loop-again : tie.Need-loop-again Inv-loop μ-loop
+loop-again c =
+    let l = c .before .before .loop in
+    let ws = c .before .before .before .args .words .now in
+    let w = getD ws (l .i) 0 in
+    let b = ones-le 64 w (c .shared-slice-known .given (l .i) .fits) in
+    (omega arith, omega (arith, b), ap (λ (x : ℕ). x + ones w) (l .inv .2) ∙ sym (total-more ws (l .i) (c .before .loop-test .taken)))
+
+returns : tie.Need-returns Inv-loop μ-loop
+returns c = c .before .loop .inv .2 ∙ ap total (take-all (c .before .loop .i) (c .before .before .args .words .now) (c .loop-test .left))
+
+pub count-spec : {M : Type 1} → statement M
+count-spec =
+    tie.close
+    (tie.spec
+    Inv-loop
+    μ-loop
+    loop-holds
+    mul-n
+    shared-slice-read-n
+    add-n
+    add-i
+    loop-less
+    loop-again
+    returns)

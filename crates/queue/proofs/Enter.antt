@@ -1,0 +1,106 @@
+-- An offer leaves the buffers as they are, or the node enters: it is put at the last place, and climbs. Assumes nothing.
+use mathlib.Core.Path.{_≡_, refl, sym, ap, ap₂, _∙_, subst}
+use mathlib.Core.Bool.{true, false, true≢false, false≢true}
+use mathlib.Core.List.{List}
+use Prim.Native.Nat.{ℕ, suc, _+_, _<_}
+use native.Mathlib.Nat.{le-refl}
+use native.Mathlib.Numerals.{add-one}
+use native.Mathlib.Decide.{ℕ-discrete}
+use native.Mathlib.Omega.{arith}
+use lib.ListN.{length, getD, set, length-set}
+use lib.Ieee.{Float, nan, le, isNan}
+use Rattle.numbers.proofs.Tests.{of-true}
+use Rattle.numbers.proofs.Order.{le-number-right}
+use Rattle.marks.specs.Marks.{marked, WithMark}
+use Rattle.queue.specs.Waiting.{Slot, out, waits, taken, offered}
+use Rattle.queue.specs.Heap.{Entry, entries, filled, waiting, parent, Numbers, held, Heap}
+use Rattle.queue.specs.Promises.{Holds}
+use Rattle.queue.specs.Steps.{OrderedBut, Climbed}
+use Rattle.queue.proofs.Stores.{put-here, put-elsewhere}
+use Rattle.queue.proofs.Exchanging.{under-by}
+use Rattle.queue.proofs.Taken.{Free, taken-more, taken-length}
+use Rattle.queue.proofs.Filled.{Full, filled-same}
+use Rattle.queue.proofs.Settle.{waiting-length, settles}
+use Rattle.queue.proofs.Offer.{offered-below, offered-held, offered-free}
+
+-- a slot that is not held is out, and one that is waits
+not-held : (s : Slot) → held s ≡ false → s ≡ out
+not-held out e = refl
+not-held (waits p) e = absurd (true≢false e)
+
+is-held : (s : Slot) → held s ≡ true → (p : Float) × (s ≡ waits p)
+is-held out e = absurd (false≢true e)
+is-held (waits p) e = (p, refl)
+
+module _ (size : ℕ) (ps : List Float) (ns ws : List ℕ) (H : Heap size ps ns ws) (v : ℕ) (hv : v < length ps) where
+  -- the queue before
+  abbrev slots : List Slot
+  slots = waiting size ps ns
+
+  -- a node that has no mark is out, and then there is room
+  free : marked ws v ≡ false → Free slots v
+  free m =
+      record {
+        inside = subst (λ (n : ℕ). v < n) (sym (waiting-length size ps ns)) hv;
+        empty = not-held (getD slots v out) (sym (H .marks-agree v hv) ∙ m);
+      }
+
+  pub has-room : marked ws v ≡ false → size < length ps
+  has-room m =
+      omega (arith, taken-more slots v nan (free m), taken-length (set slots v (waits nan)), length-set slots v (waits nan), waiting-length size ps ns, H .count)
+
+  -- ---- nothing enters: the priority is below the threshold, or the node waits already
+  stays : (after : List Slot) → after ≡ slots → Holds after (length ps) (length ws) size ps ns ws
+  stays after e = record { heap = H; same-room = refl; same-words = refl; view = sym e }
+
+  pub stays-below : (t p : Float) → le t p ≡ false → Holds (offered t v p slots) (length ps) (length ws) size ps ns ws
+  stays-below t p below = stays (offered t v p slots) (offered-below t v p slots below)
+
+  pub stays-held : (t p : Float) → le t p ≡ true → marked ws v ≡ true → Holds (offered t v p slots) (length ps) (length ws) size ps ns ws
+  stays-held t p reach m =
+      let s = is-held (getD slots v out) (sym (H .marks-agree v hv) ∙ m) in
+      stays (offered t v p slots) (offered-held t v p slots (s .0) reach (s .1))
+
+  -- ---- the node enters
+  module _ (t p : Float) (reach : le t p ≡ true) (m : marked ws v ≡ false) (ps′ : List Float) (ns′ ws′ : List ℕ) (same-ps : length ps′ ≡ length ps)
+      (same-ns : length ns′ ≡ length ns) (c : Climbed size (entries (set ps size p) (set ns size v)) (entries ps′ ns′)) (w : WithMark true ws ws′ v) where
+    -- the entries with the new one at the last place, before it climbs
+    abbrev put : ℕ → Entry
+    put = entries (set ps size p) (set ns size v)
+
+    put-last : put size ≡ record { priority = p; node = v }
+    put-last = put-here ps ns size p v (has-room m) (omega (arith, has-room m, H .paired))
+
+    put-old : (k : ℕ) → k < size → put k ≡ entries ps ns k
+    put-old k h = put-elsewhere ps ns size p v k (omega arith)
+
+    -- they fill the queue with the node in it
+    put-fills : filled (length ps) put (suc size) ≡ set slots v (waits p)
+    unfolding filled waiting
+    put-fills =
+        ap₂ (λ (a : Entry) (l : List Slot). set l (a .node) (waits (a .priority))) put-last (filled-same (length ps) (entries ps ns) put size put-old)
+
+    put-full : Full (length ps) put (suc size)
+    put-full = ap taken put-fills ∙ taken-more slots v p (free m) ∙ ap suc (H .count)
+
+    put-numbers : Numbers (suc size) put
+    put-numbers k h = go (ℕ-discrete k size)
+      where
+        go : Dec (k ≡ size) → isNan (put k .priority) ≡ false
+        go (yes e) = ap (λ (i : ℕ). isNan (put i .priority)) e ∙ ap (λ (a : Entry). isNan (a .priority)) put-last ∙ le-number-right t p (of-true reach)
+        go (no e) = let old : k < size = omega arith in ap (λ (a : Entry). isNan (a .priority)) (put-old k old) ∙ H .numbers k old
+
+    put-ordered : OrderedBut (λ j. j ≡ size) (suc size) put size
+    put-ordered =
+        record {
+          numbers = put-numbers;
+          rest = λ j a b ne. under-by (put-old j (omega arith)) (put-old (parent j) (omega arith)) (H .ordered j a (omega arith));
+          past = λ j a b e z. absurd (omega arith);
+        }
+
+    -- and settle there
+    holds : Holds (set slots v (waits p)) (length ps) (length ws) (suc size) ps′ ns′ ws′
+    holds = settles H v (waits p) (c (suc size) (le-refl (suc size))) put-ordered put-full put-fills (has-room m) same-ps same-ns w
+
+    pub enters : Holds (offered t v p slots) (length ps) (length ws) (size + 1) ps′ ns′ ws′
+    enters = rw (add-one size, offered-free t v p slots reach (free m .empty)) holds
