@@ -1,4 +1,4 @@
--- The norm of 01's push rules: the square root of the squares added from left to right. Assumes nothing.
+-- The norm of the push rules: the square root of the squares added from left to right. Assumes nothing.
 use mathlib.Core.Path.{_≡_, refl}
 use mathlib.Core.List.{List, [], _∷_}
 use mathlib.Core.Bool.{true, false}

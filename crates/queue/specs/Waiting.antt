@@ -1,4 +1,4 @@
--- The work queue as 01's push rules have it: for each node whether it waits and at which priority; what an offer does; which node is next; how the
+-- The work queue as the push rules have it: for each node whether it waits and at which priority; what an offer does; which node is next; how the
 -- threshold adapts. `Cases.antt` computes examples.
 use mathlib.Core.Bool.{_&&_}
 use mathlib.Core.List.{List, [], _∷_}
@@ -78,7 +78,7 @@ pub record Adaptive : Type 0 where
   pub fall : Float
   pub floor : Float
 
--- 01's numbers, each the double nearest to what the comment says
+-- the rules' numbers, each the double nearest to what the comment says
 unfoldable pub usual : Adaptive
 usual =
     record {

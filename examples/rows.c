@@ -1,0 +1,26 @@
+/* From C: the rows of four links among three nodes, of which one is dropped, and their degrees. */
+#include "talwighest.h"
+
+#include <stdio.h>
+
+int main(void) {
+    const uint32_t from[] = {2, 0, 1, 0};
+    const uint32_t to[] = {1, 2, 3, 1};
+    const double weight[] = {1.0, 0.5, 4.0, 2.0};
+    uint32_t starts[4], columns[4], positions[3];
+    double weights[4], degrees[3];
+
+    struct Built built = from_edges(3, from, 4, to, 4, weight, 4, starts, 4, columns, 4, weights, 4, positions, 3);
+    printf("refusal %u, kept %u of 4\n", built.refusal, built.kept);
+    /* Rows end at the last start, so the lists handed on are as long as links were kept. */
+    uint32_t refusal = row_sums(3, starts, 4, columns, built.kept, weights, built.kept, degrees, 3);
+    printf("refusal %u\n", refusal);
+    for (uint32_t node = 0; node < 3; node++) {
+        printf("node %u, degree %g:", node, degrees[node]);
+        for (uint32_t place = starts[node]; place < starts[node + 1]; place++) {
+            printf(" to %u at %g", columns[place], weights[place]);
+        }
+        printf("\n");
+    }
+    return 0;
+}
