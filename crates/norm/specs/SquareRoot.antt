@@ -7,7 +7,7 @@ use lib.Dec.{lit<, lit≤}
 use lib.Ieee.{Float, nan, inf, fin, up, down, odd}
 
 -- q is the whole number nearest to √(a / b), for an a / b from 2 ^ 104 to 2 ^ 106, whose root is from 2 ^ 52 to 2 ^ 53.
--- q - 1/2 < √(a / b) < q + 1/2, squared, times 4 and times b.
+-- q - 1/2 < √(a / b) < q + 1/2, squared, times 4 and times b. No number of the format has a root halfway between two others, so neither bound need allow for one.
 pub record Nearest (a b q : ℕ) : Type 0 where
   pub from : 2 ^ 104 * b ≤ a
   pub to : a < 2 ^ 106 * b
