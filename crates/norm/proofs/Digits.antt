@@ -1,7 +1,6 @@
 -- The digit-by-digit square root on whole numbers: the next digit is 1 where 4 root + 1 goes into what is left, and then that much is taken away.
 -- A loop's invariant over it: the root so far is that of the digits brought down. Assumes nothing.
 use mathlib.Core.Path.{_≡_, refl, sym, subst}
-use mathlib.Core.Logic.{_⊎_, inl, inr}
 use mathlib.Core.Bool.{Bool, true, false}
 use Prim.Native.Nat.{ℕ, _+_, _-_, _*_, _/_, _%_, _^_, _≤_, _<_}
 use native.Mathlib.Nat.{lt-of-lt-of-le, le-of-suc-le-suc}

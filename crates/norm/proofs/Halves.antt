@@ -1,7 +1,7 @@
 -- The root of s * 2 ^ 54 from that of s: with s = a² + rest, the upper half of the root is a, and the lower half is rest * 2 ^ 27 divided by 2 a, or one less.
 -- The square of a * 2 ^ 27 + low is s * 2 ^ 54 + low² less what the division leaves times 2 ^ 27. Assumes nothing.
 use mathlib.Core.Path.{_≡_}
-use Prim.Native.Nat.{ℕ, zero, suc, _+_, _-_, _*_, _/_, _%_, _^_, _≤_, _<_}
+use Prim.Native.Nat.{ℕ, _+_, _-_, _*_, _/_, _%_, _^_, _≤_, _<_}
 use native.Mathlib.Nat.{mul-add, add-mul, mul-comm, mul-assoc, mul-le-mul, mul-mul-mul-comm, mod-lt, div-add-mod, div-le-of-le-mul}
 use native.Mathlib.Omega.{arith}
 use lib.Ieee.Positive.{first-pos}

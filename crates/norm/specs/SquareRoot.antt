@@ -1,7 +1,7 @@
 -- The square root of a binary64, rounded to the nearest, by comparing squares of whole numbers. Assumes nothing.
 use mathlib.Core.Path.{_≡_, refl}
 use mathlib.Core.Bool.{true, false}
-use Prim.Native.Nat.{ℕ, zero, suc, _+_, _-_, _*_, _/_, _^_, _≤_, _<_}
+use Prim.Native.Nat.{ℕ, zero, suc, _+_, _-_, _*_, _^_, _≤_, _<_}
 use lib.IntN.{pos, negsuc}
 use lib.Dec.{lit<, lit≤}
 use lib.Ieee.{Float, nan, inf, fin, up, down, odd}

@@ -1,6 +1,6 @@
 -- Which calls are refused, and with which number: the table of refusals, row by row. A test is its number where it applies, and 0 where it does not.
 -- Assumes nothing.
-use Prim.Native.Nat.{ℕ, zero, suc, _+_}
+use Prim.Native.Nat.{ℕ, zero, suc}
 use mathlib.Core.Bool.{Bool, true, false, not, _&&_, _||_}
 use mathlib.Core.List.{List, [], _∷_}
 use lib.ListN.{length, getD}

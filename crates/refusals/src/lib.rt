@@ -1,7 +1,6 @@
 // The tests of the public calls: which number a call is refused with.
 
 ghost use mathlib.Core.Path.{_≡_};
-ghost use mathlib.Core.Bool.{not, _||_};
 ghost use lib.ListN.{length, getD};
 ghost use lib.Dec.{leb};
 ghost use Rattle.refusals.specs.Refusals.{_or_, _when_, nodes, links, listed, rows, weights, alphas, settings, precision, amount, wrong, falls, any, within};

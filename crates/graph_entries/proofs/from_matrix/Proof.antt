@@ -1,6 +1,6 @@
 -- `graph_entries::from_matrix` meets its contract: refused by what the tests say, or done as `reverse_rows` and `sum_rows` say. Assumes nothing.
 use Prim.Native.Nat.{ℕ}
-use mathlib.Core.Path.{_≡_, ap, _∙_}
+use mathlib.Core.Path.{_≡_, _∙_}
 use mathlib.Core.List.{List}
 use denote.Ref.{now}
 use lib.ListN.{length}
@@ -8,7 +8,7 @@ use lib.Ieee.{Float}
 use Rattle.refusals.specs.Refusals.{lengths, unlike}
 use Rattle.refusals.specs.Calls.{left}
 use Rattle.refusals.proofs.Laws.{refused, accepted, rows-passed}
-use Rattle.graph.specs.Store.{Rowed, RowBuffers}
+use Rattle.graph.specs.Store.{RowBuffers}
 use Rattle.graph.proofs.Read.{degrees-are}
 use Rattle.graph.proofs.Back.{held-rowed, held-degrees}
 use Rattle.graph_entries.specs.Outcomes.{RowsLent, rowsLent, graphLent, matrixRefusal, fromMatrix}

@@ -4,7 +4,6 @@ use denote.Ref.{now}
 use Rattle.refusals.specs.Refusals.{lengths, unlike}
 use Rattle.refusals.specs.Calls.{left}
 use Rattle.refusals.proofs.Laws.{refused, accepted, rows-passed}
-use Rattle.graph.specs.Store.{RowBuffers}
 use Rattle.graph_entries.specs.Outcomes.{rowsLent, transposeRefusal, transposing}
 use Rattle.graph_entries.proofs.Given.{rowed-of, made}
 use borrow.Author.Needs.{needs}

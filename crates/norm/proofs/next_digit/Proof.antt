@@ -2,7 +2,7 @@
 use Prim.Native.Nat.{_+_, _*_}
 use native.Mathlib.Omega.{arith}
 use borrow.Author.Needs.{needs}
-use Rattle.norm.proofs.Digits.{Digit, digit, at-most-one, enough, lengthened}
+use Rattle.norm.proofs.Digits.{digit, at-most-one, enough, lengthened}
 use Rattle.norm.proofs.next_digit.Statement.{statement}
 use Rattle.norm.proofs.next_digit.Tie as tie
 

@@ -1,5 +1,5 @@
 -- `roots::pattern` meets its contract: only a NaN differs from itself. Assumes nothing.
-use mathlib.Core.Path.{refl, sym, ap, _∙_, subst}
+use mathlib.Core.Path.{sym, ap, subst}
 use borrow.Author.Needs.{needs}
 use lib.Dec.{T}
 use lib.Ieee.{binary64, toBits}
