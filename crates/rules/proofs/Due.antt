@@ -1,0 +1,57 @@
+-- Whose turn it is: one who waits, while a push is left. Assumes nothing.
+use Prim.Native.Nat.{ℕ, suc, _+_, _<_}
+use native.Mathlib.Nat.{zero-add, lt-of-not-le}
+use native.Mathlib.Omega.{arith}
+use mathlib.Core.Path.{_≡_, refl, subst}
+use mathlib.Core.List.{List, [], _∷_}
+use borrow.Author.Tests.{ltb-true}
+use lib.ListN.{length, getD, List·getD-eq-default}
+use lib.Ieee.{Float}
+use Rattle.numbers.proofs.Choice.{decided, either}
+use Rattle.numbers.proofs.Tests.{both}
+use Rattle.refusals.specs.declared.Settings.{Settings}
+use Rattle.queue.specs.Waiting.{Slot, out, waits, Best, nobody, best, better, bestFrom, next}
+use Rattle.queue.proofs.Taken.{out-waits}
+use Rattle.rules.specs.Rules.{State, Watch, due}
+
+-- what is said of the best, where there is one
+abbrev Of : (ℕ → Float → Type 0) → Best → Type 0
+Of Q nobody = Unit {0}
+Of Q (best v p) = Q v p
+
+-- the better of two has what both have
+better-of : (Q : ℕ → Float → Type 0) (b : Best) (v : ℕ) (p : Float) → Of Q b → Q v p → Of Q (better b v p)
+unfolding better
+better-of Q nobody v p h k = k
+better-of Q (best u q) v p h k = either (Of Q) _ k h
+
+-- and so has the best of all that wait
+best-of : (Q : ℕ → Float → Type 0) (b : Best) (u : ℕ) (slots : List Slot) → Of Q b → ((k : ℕ) (p : Float) → getD slots k out ≡ waits p → Q (u + k) p)
+    → Of Q (bestFrom b u slots)
+unfolding bestFrom
+best-of Q b u [] h g = h
+best-of Q b u (out ∷ slots) h g = best-of Q b (suc u) slots h (λ k p e. subst (λ (x : ℕ). Q x p) (omega arith) (g (suc k) p e))
+best-of Q b u (waits q ∷ slots) h g =
+    best-of Q (better b u q) (suc u) slots (better-of Q b u q h (subst (λ (x : ℕ). Q x q) (omega arith) (g 0 q refl)))
+    (λ k p e. subst (λ (x : ℕ). Q x p) (omega arith) (g (suc k) p e))
+
+-- a push is left, and v waits
+pub record Ready (settings : Settings) (s : State) (v : ℕ) (p : Float) : Type 0 where
+  pub left : s .pushes < settings .«max_pushes»
+  pub slot : getD (s .slots) v out ≡ waits p
+
+-- whose turn it is, is ready
+pub due-ready : (settings : Settings) (watch : Watch) (s : State) (v : ℕ) (p : Float) → due settings watch s ≡ best v p → Ready settings s v p
+unfolding due next
+due-ready settings watch s v p e = subst (Of (Ready settings s)) e all
+  where
+    all : Of (Ready settings s) (due settings watch s)
+    all =
+        decided (Of (Ready settings s)) _
+        (λ t. best-of (Ready settings s) nobody 0 (s .slots) tt
+        (λ k q h. record { left = ltb-true _ _ (both _ _ t .0); slot = rw zero-add h })) (λ t. tt)
+
+-- whose turn it is, is a node of the queue
+pub due-inside : (settings : Settings) (watch : Watch) (s : State) (v : ℕ) (p : Float) → due settings watch s ≡ best v p → v < length (s .slots)
+due-inside settings watch s v p e =
+    lt-of-not-le (λ h. out-waits (getD (s .slots) v out) p (List·getD-eq-default (s .slots) out h) (due-ready settings watch s v p e .slot))

@@ -1,0 +1,215 @@
+-- The cases P1 to P12, and below them cases of what is easy to get wrong, as one list that the rules are checked against. A number is
+-- written by its bit pattern; the norms and the square roots go by the root's definition. Assumes nothing.
+use Prim.Native.Nat.{ℕ, _^_}
+use mathlib.Core.Bool.{Bool, true, false}
+use mathlib.Core.List.{List, [], _∷_}
+use mathlib.Core.Path.{_≡_, refl}
+use lib.IntN.{negsuc}
+use lib.Dec.{lit<, lit≤}
+use lib.Ieee.{Float, fin, odd, ofBits, ofInt, add, sub, mul, div, lt, le}
+use Rattle.numbers.specs.Numbers.{f64, +0, one}
+use Rattle.numbers.specs.Choice.{if_then_else_}
+use Rattle.numbers.specs.Tables.{tabulate}
+use Rattle.refusals.specs.declared.Settings.{Settings}
+use Rattle.refusals.specs.Refusals.{any}
+use Rattle.norm.specs.SquareRoot.{Root}
+use Rattle.norm.specs.Norm.{Norm, addSquares}
+use Rattle.marks.specs.Marks.{howMany}
+use Rattle.graph.specs.Rows.{Link, link, kept, gives, rowOf, rowsOf, sumFrom, degree, into, intoFrom, transposed}
+use Rattle.queue.specs.Waiting.{out, taken, answer, offered, better, bestFrom, next, usual, adapted}
+use Rattle.rules.specs.Ways.{forward, backward, effective, transition, shareOf, wayOf, over, overLinks, degreeOf}
+use Rattle.rules.specs.Rules.{each, State, unwatched, watched, blank, queued, gain, absorb, counted, offer, pass, handOut, push, stops, due, skips, visit, turn, onward, run}
+use Rattle.rules.specs.Rules.{inside, watchable, begun, start, enough, solve}
+use Rattle.rules.specs.Pushed.{pushed, distinct}
+use Rattle.rules.specs.Answers.{visitedCount, combined, together, neither, backwardAlone, forwardAlone, both, method}
+
+-- ---- numbers
+
+-- 1/8
+abbrev eighth : Float
+eighth = f64 0x3fc0_0000_0000_0000
+
+-- 1/4
+abbrev quarter : Float
+quarter = f64 0x3fd0_0000_0000_0000
+
+-- 1/2
+abbrev half : Float
+half = f64 0x3fe0_0000_0000_0000
+
+-- 2
+abbrev two : Float
+two = f64 0x4000_0000_0000_0000
+
+-- 5
+abbrev five : Float
+five = f64 0x4014_0000_0000_0000
+
+-- 6
+abbrev six : Float
+six = f64 0x4018_0000_0000_0000
+
+-- ---- what is given
+
+-- settings that are not adaptive
+abbrev set-to : Float → Float → Float → ℕ → Settings
+set-to alpha epsilon threshold max =
+    record { alpha = alpha; epsilon = epsilon; «queue_threshold» = threshold; «max_pushes» = max; «adaptive_threshold» = false }
+
+-- the settings of the cases, with the most pushes
+abbrev usually : ℕ → Settings
+usually max = set-to half quarter quarter max
+
+-- settings that are adaptive
+abbrev adaptive : Settings
+adaptive = record { alpha = half; epsilon = quarter; «queue_threshold» = quarter; «max_pushes» = 2000; «adaptive_threshold» = true }
+
+-- a state of one node after so many pushes
+abbrev after : ℕ → State
+after pushes = record { estimate = +0 ∷ []; residual = +0 ∷ []; slots = out ∷ []; threshold = quarter; pushes = pushes; visited = true ∷ [] }
+
+-- a link 0→1
+abbrev chain : Float → List Link
+chain weight = link 0 1 weight ∷ []
+
+-- links 0→1 and 0→2
+abbrev fork : Float → Float → List Link
+fork a b = link 0 1 a ∷ link 0 2 b ∷ []
+
+-- a solve of a list of links
+abbrev solved : Bool → ℕ → List Link → Settings → List ℕ → State
+solved direction n links settings sources = solve (overLinks direction n links) settings unwatched n sources
+
+-- the chain from 0, with a node that is watched
+abbrev watching : ℕ → Float → State
+watching v precision = solve (overLinks forward 2 (chain one)) (usually 10) (watched v precision) 2 (0 ∷ [])
+
+-- the fork with weights 2 and 3, and alpha 0.15
+abbrev uneven : Bool → ℕ → State
+uneven direction v = solved direction 3 (fork two (f64 0x4008_0000_0000_0000)) (set-to (f64 0x3fc3_3333_3333_3333) eighth eighth 1) (v ∷ [])
+
+-- P1: the chain from 0
+abbrev along : State
+along = solved forward 2 (chain one) (usually 10) (0 ∷ [])
+
+-- P8: the chain backward from 1
+abbrev against : State
+against = solved backward 2 (chain one) (usually 10) (1 ∷ [])
+
+-- ---- what comes out
+
+-- what is looked at: both counts and both vectors
+pub record Outcome : Type 0 where
+  pub pushes : ℕ
+  pub visited : ℕ
+  pub estimate : List Float
+  pub residual : List Float
+
+-- an outcome, by its parts
+abbrev outcome : ℕ → ℕ → List Float → List Float → Outcome
+outcome pushes visited estimate residual = record { pushes = pushes; visited = visited; estimate = estimate; residual = residual }
+
+-- that of a state
+abbrev shown : State → Outcome
+shown s = outcome (s .pushes) (visitedCount s) (s .estimate) (s .residual)
+
+-- the list
+pub record Worked : Type 0 where
+  -- P1: three pushes, two nodes
+  pub chain-forward : shown along ≡ outcome 3 2 (half ∷ f64 0x3fd8_0000_0000_0000 ∷ []) (+0 ∷ eighth ∷ [])
+  pub chain-norm : Norm (along .residual) eighth
+  pub chain-pushed : pushed (overLinks forward 2 (chain one)) (usually 10) unwatched 32 (start (overLinks forward 2 (chain one)) (usually 10) unwatched 2 (0 ∷ [])) ≡ 0 ∷ 1 ∷ 1 ∷ []
+  pub chain-distinct : distinct (0 ∷ 1 ∷ 1 ∷ []) ≡ 0 ∷ 1 ∷ []
+  -- P2: no nodes, or a source out of range
+  pub no-nodes : shown (solved forward 0 [] (usually 10) (0 ∷ [])) ≡ outcome 0 0 [] []
+  pub out-of-range : shown (solved forward 2 (chain one) (usually 10) (2 ∷ [])) ≡ outcome 0 0 (+0 ∷ +0 ∷ []) (+0 ∷ +0 ∷ [])
+  -- P3: no pushes
+  pub no-pushes : shown (solved forward 2 (chain one) (usually 0) (0 ∷ [])) ≡ outcome 0 0 (+0 ∷ +0 ∷ []) (one ∷ +0 ∷ [])
+  pub no-pushes-norm : Norm (solved forward 2 (chain one) (usually 0) (0 ∷ []) .residual) one
+  -- P4: one push
+  pub one-push : shown (solved forward 2 (chain one) (usually 1) (0 ∷ [])) ≡ outcome 1 1 (half ∷ +0 ∷ []) (+0 ∷ half ∷ [])
+  -- P5: a threshold that nobody reaches
+  pub high-threshold : shown (solved forward 2 (chain one) (set-to half quarter two 10) (0 ∷ [])) ≡ outcome 0 0 (+0 ∷ +0 ∷ []) (one ∷ +0 ∷ [])
+  -- P6: node 1 is popped, and skipped
+  pub skipped : shown (solved forward 2 (chain one) (set-to half (f64 0x3fe8_0000_0000_0000) quarter 10) (0 ∷ [])) ≡ outcome 1 1 (half ∷ +0 ∷ []) (+0 ∷ half ∷ [])
+  pub popped : solved forward 2 (chain one) (set-to half (f64 0x3fe8_0000_0000_0000) quarter 10) (0 ∷ []) .slots ≡ out ∷ out ∷ []
+  -- P7: of equal priorities, node 2 goes first
+  pub tie : shown (solved forward 3 (fork one one) (usually 2) (0 ∷ [])) ≡ outcome 2 2 (half ∷ +0 ∷ eighth ∷ []) (+0 ∷ quarter ∷ eighth ∷ [])
+  -- P8: backward
+  pub chain-backward : shown against ≡ outcome 3 2 (f64 0x3fd8_0000_0000_0000 ∷ half ∷ []) (eighth ∷ +0 ∷ [])
+  -- P9: P1 and P8 combined
+  pub chain-together : together half against along 2 ≡ f64 0x3fdc_0000_0000_0000
+  -- P10: an out-degree below 1
+  pub light-backward : shown (solved backward 2 (chain half) (usually 1) (1 ∷ [])) ≡ outcome 1 1 (+0 ∷ half ∷ []) (quarter ∷ +0 ∷ [])
+  -- P11: the share of a source out of range is lost
+  pub share-lost : shown (solved forward 2 (chain one) (usually 0) (0 ∷ 5 ∷ [])) ≡ outcome 0 0 (+0 ∷ +0 ∷ []) (half ∷ +0 ∷ [])
+  pub share-lost-norm : Norm (solved forward 2 (chain one) (usually 0) (0 ∷ 5 ∷ []) .residual) half
+  -- P12: two square roots
+  pub root-two : Root two (f64 0x3ff6_a09e_667f_3bcd)
+  pub root-least : Root (f64 1) (fin false 1 (negsuc 536))
+  -- the forward share: the product first, then the quotient (weight / degree first would end in c3)
+  pub product-first : shown (uneven forward 0) ≡ outcome 1 1 (f64 0x3fc3_3333_3333_3333 ∷ +0 ∷ +0 ∷ []) (+0 ∷ f64 0x3fd5_c28f_5c28_f5c2 ∷ f64 0x3fe0_51eb_851e_b852 ∷ [])
+  -- the backward share: the quotient first, by the out-degree of the entry's node (the product first would end in c2)
+  pub quotient-first : shown (uneven backward 1) ≡ outcome 1 1 (+0 ∷ f64 0x3fc3_3333_3333_3333 ∷ +0 ∷ []) (f64 0x3fd5_c28f_5c28_f5c3 ∷ +0 ∷ +0 ∷ [])
+  -- forward, a degree below 1 divides as it is
+  pub light-forward : shown (solved forward 2 (chain half) (usually 1) (0 ∷ [])) ≡ outcome 1 1 (half ∷ +0 ∷ []) (+0 ∷ half ∷ [])
+  -- a link from a node to itself brings its mass back
+  pub own-link : shown (solved forward 1 (link 0 0 one ∷ []) (usually 1) (0 ∷ [])) ≡ outcome 1 1 (half ∷ []) (half ∷ [])
+  -- the priority of a node that waits stays where a second link brings it more: 2 is pushed before 1, which has more by then
+  pub priority-stays : shown (solved forward 3 (link 0 1 five ∷ link 0 2 six ∷ link 0 1 five ∷ []) (set-to half eighth eighth 2) (0 ∷ [])) ≡ outcome 2 2 (half ∷ +0 ∷ f64 0x3fb8_0000_0000_0000 ∷ []) (+0 ∷ f64 0x3fd4_0000_0000_0000 ∷ f64 0x3fb8_0000_0000_0000 ∷ [])
+  -- where the degree is 0 the rest goes back, links or not
+  pub weightless : shown (solved forward 2 (chain +0) (usually 1) (0 ∷ [])) ≡ outcome 1 1 (half ∷ +0 ∷ []) (half ∷ +0 ∷ [])
+  -- the early stop: after one push the estimate of node 0 is above 1/4, and never above 1/2; a watched node out of range
+  pub stopped : shown (watching 0 quarter) ≡ outcome 1 1 (half ∷ +0 ∷ []) (+0 ∷ half ∷ [])
+  pub unstopped : shown (watching 0 half) ≡ outcome 3 2 (half ∷ f64 0x3fd8_0000_0000_0000 ∷ []) (+0 ∷ eighth ∷ [])
+  pub unwatchable : shown (watching 2 quarter) ≡ outcome 0 0 (+0 ∷ +0 ∷ []) (+0 ∷ +0 ∷ [])
+  -- the threshold adapts at the thousandth push, and not before: × 0.9, since nobody waits
+  pub adapts : counted adaptive 0 (after 999) .threshold ≡ f64 0x3fcc_cccc_cccc_cccd
+  pub adapts-not : counted adaptive 0 (after 998) .threshold ≡ quarter
+  -- the choice of adaptive_solve: the out-degree of the source against 2 × the in-degree of the target
+  pub by-both : method 3 (rowsOf 3 (fork one one)) 0 1 ≡ both
+  pub by-backward : method 3 (rowsOf 3 (fork one two)) 0 1 ≡ backwardAlone
+  pub by-forward : method 3 (rowsOf 3 (fork one two)) 1 2 ≡ forwardAlone
+  pub by-neither : method 3 (rowsOf 3 (fork one two)) 3 0 ≡ neither
+
+-- the list holds
+pub worked : Worked
+unfolding if_then_else_ tabulate howMany kept gives rowOf rowsOf sumFrom degree into intoFrom transposed taken answer offered better bestFrom next usual adapted effective transition shareOf wayOf over degreeOf each blank queued gain absorb counted offer pass handOut push stops due skips visit turn onward run inside watchable begun start enough solve pushed distinct any visitedCount combined method addSquares ofBits ofInt add sub mul div lt le odd
+worked =
+    record {
+      chain-forward = refl;
+      chain-norm = record { q = 2 ^ 52; k = 1019; is = refl; near = record { from = lit≤ tt; to = lit< tt; over = lit< tt; under = lit< tt } };
+      chain-pushed = refl;
+      chain-distinct = refl;
+      no-nodes = refl;
+      out-of-range = refl;
+      no-pushes = refl;
+      no-pushes-norm = record { q = 2 ^ 52; k = 1022; is = refl; near = record { from = lit≤ tt; to = lit< tt; over = lit< tt; under = lit< tt } };
+      one-push = refl;
+      high-threshold = refl;
+      skipped = refl;
+      popped = refl;
+      tie = refl;
+      chain-backward = refl;
+      chain-together = refl;
+      light-backward = refl;
+      share-lost = refl;
+      share-lost-norm = record { q = 2 ^ 52; k = 1021; is = refl; near = record { from = lit≤ tt; to = lit< tt; over = lit< tt; under = lit< tt } };
+      root-two = record { q = 6369051672525773; k = 1022; is = refl; near = record { from = lit≤ tt; to = lit< tt; over = lit< tt; under = lit< tt } };
+      root-least = record { q = 2 ^ 52; k = 485; is = refl; near = record { from = lit≤ tt; to = lit< tt; over = lit< tt; under = lit< tt } };
+      product-first = refl;
+      quotient-first = refl;
+      light-forward = refl;
+      own-link = refl;
+      priority-stays = refl;
+      weightless = refl;
+      stopped = refl;
+      unstopped = refl;
+      unwatchable = refl;
+      adapts = refl;
+      adapts-not = refl;
+      by-both = refl;
+      by-backward = refl;
+      by-forward = refl;
+      by-neither = refl;
+    }

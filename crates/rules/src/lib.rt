@@ -1,0 +1,1 @@
+// The push rules are definitions and theorems alone: see specs/ and proofs/.
