@@ -41,13 +41,13 @@ half = f64 0x3fe0_0000_0000_0000
 abbrev two : Float
 two = f64 0x4000_0000_0000_0000
 
--- 5
-abbrev five : Float
-five = f64 0x4014_0000_0000_0000
+-- 5/4
+abbrev five-quarters : Float
+five-quarters = f64 0x3ff4_0000_0000_0000
 
--- 6
-abbrev six : Float
-six = f64 0x4018_0000_0000_0000
+-- 3/2
+abbrev three-halves : Float
+three-halves = f64 0x3ff8_0000_0000_0000
 
 -- ---- what is given
 
@@ -156,7 +156,7 @@ pub record Worked : Type 0 where
   -- a link from a node to itself brings its mass back
   pub own-link : shown (solved forward 1 (link 0 0 one ∷ []) (usually 1) (0 ∷ [])) ≡ outcome 1 1 (half ∷ []) (half ∷ [])
   -- the priority of a node that waits stays where a second link brings it more: 2 is pushed before 1, which has more by then
-  pub priority-stays : shown (solved forward 3 (link 0 1 five ∷ link 0 2 six ∷ link 0 1 five ∷ []) (set-to half eighth eighth 2) (0 ∷ [])) ≡ outcome 2 2 (half ∷ +0 ∷ f64 0x3fb8_0000_0000_0000 ∷ []) (+0 ∷ f64 0x3fd4_0000_0000_0000 ∷ f64 0x3fb8_0000_0000_0000 ∷ [])
+  pub priority-stays : shown (solved forward 3 (link 0 1 five-quarters ∷ link 0 2 three-halves ∷ link 0 1 five-quarters ∷ []) (set-to half eighth eighth 2) (0 ∷ [])) ≡ outcome 2 2 (half ∷ +0 ∷ f64 0x3fb8_0000_0000_0000 ∷ []) (+0 ∷ f64 0x3fd4_0000_0000_0000 ∷ f64 0x3fb8_0000_0000_0000 ∷ [])
   -- where the degree is 0 the rest goes back, links or not
   pub weightless : shown (solved forward 2 (chain +0) (usually 1) (0 ∷ [])) ≡ outcome 1 1 (half ∷ +0 ∷ []) (half ∷ +0 ∷ [])
   -- the early stop: after one push the estimate of node 0 is above 1/4, and never above 1/2; a watched node out of range
