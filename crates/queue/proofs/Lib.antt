@@ -1,4 +1,4 @@
--- The laws that the proofs of `queue` share. `Taken` and `Offer` are also for whoever builds rules on the queue.
+-- The laws that the proofs of `queue` share. `Taken`, `Offer` and `Settle` are also for whoever builds rules on the queue.
 mod Under
 mod Stores
 mod Exchanging
@@ -7,7 +7,7 @@ mod Sink
 pub mod Taken
 pub mod Offer
 mod Filled
-mod Settle
+pub mod Settle
 mod Best
 mod Enter
 mod Leave

@@ -1,0 +1,87 @@
+-- The rows that the buffers stand for: their lengths, nodes and degrees. Assumes nothing.
+use Prim.Native.Nat.{ℕ, suc, _+_, _≤_, _<_}
+use native.Mathlib.Numerals.{add-one}
+use native.Mathlib.Omega.{arith}
+use mathlib.Core.Bool.{Bool, true, false}
+use mathlib.Core.List.{List}
+use mathlib.Core.Path.{_≡_, refl, sym, ap, _∙_}
+use lib.ListN.{length, getD}
+use lib.Seq.{slice, length-slice, getD-drop, getD-take}
+use lib.Ieee.{Float, nan}
+use Rattle.numbers.proofs.Tables.{getD-tabulate, map-tabulate}
+use Rattle.graph.specs.Rows.{degree, entriesOf, rowIn, rowsIn}
+use Rattle.graph.specs.Store.{chosen, degreesIn, Rowed}
+use Rattle.graph.proofs.Read.{degrees-are, start-le, start-inside}
+use Rattle.rules.specs.Ways.{Way, wayOf, degreeOf}
+use Rattle.rules.specs.Rules.{at}
+use Rattle.solver.specs.Buffers.{Rows}
+use Rattle.solver.specs.Meant.{Weighs, Stands}
+
+-- one of two lists that are as long
+pub chosen-long : {A : Type 0} (backward : Bool) (x y : List A) → length y ≡ length x → length (chosen backward x y) ≡ length x
+unfolding chosen
+chosen-long true x y e = e
+chosen-long false x y e = refl
+
+module _ {n : ℕ} {starts columns : List ℕ} {weights : List Float} (z : Rowed n starts columns weights) (v : ℕ) (h : v < n) where
+  -- a degree that is read is that of the row
+  degree-at : {degrees : List Float} → degrees ≡ degreesIn n starts weights → at degrees v ≡ degree (rowIn (getD starts v 0) (getD starts (suc v) 0) columns weights)
+  unfolding rowsIn
+  degree-at e = ap (λ (l : List Float). at l v) (e ∙ degrees-are z ∙ map-tabulate degree n _) ∙ getD-tabulate n _ v nan h
+
+  -- the parts of a row are as long
+  pub row-paired : {row : List ℕ} {part : List Float} → row ≡ slice (getD starts v 0) (getD starts (v + 1) 0) columns
+      → part ≡ slice (getD starts v 0) (getD starts (v + 1) 0) weights → length part ≡ length row
+  row-paired e f =
+      let k : getD starts (v + 1) 0 ≤ length columns = rw add-one (start-inside z (suc v) h) in
+      let l : getD starts (v + 1) 0 ≤ length weights = rw (z .paired) k in
+      rw (e, f, length-slice _ _ columns k, length-slice _ _ weights l)
+
+  -- they make the row
+  pub row-made : {row : List ℕ} {part : List Float} → row ≡ slice (getD starts v 0) (getD starts (v + 1) 0) columns
+      → part ≡ slice (getD starts v 0) (getD starts (v + 1) 0) weights → rowIn (getD starts v 0) (getD starts (suc v) 0) columns weights ≡ entriesOf row part
+  unfolding rowIn
+  row-made e f = rw (e, f, add-one)
+
+  -- its nodes are nodes
+  pub row-inside : {row : List ℕ} → row ≡ slice (getD starts v 0) (getD starts (v + 1) 0) columns → (k : ℕ) → k < length row → getD row k 0 < n
+  row-inside e k l =
+      let s = getD starts v 0 in
+      let t = getD starts (v + 1) 0 in
+      let i : t ≤ getD starts n 0 = rw add-one (start-le z (suc v) h) in
+      let j : s + k < t = omega (arith, rw (e, length-slice s t columns (rw add-one (start-inside z (suc v) h))) at l) in
+      rw (e, getD-drop, getD-take) (z .inside (s + k) (omega arith))
+
+module _ {n : ℕ} {backward : Bool} {starts columns columns′ : List ℕ} {weights weights′ degrees outs : List Float}
+    (r : Rows n backward starts columns columns′ weights weights′ degrees outs) where
+  module _ (v : ℕ) (h : v < n) (s e : ℕ) (p : s ≡ getD starts v 0) (q : e ≡ getD starts (v + 1) 0) where
+    -- the row of v is a part of either of two lists that are as long as the columns
+    part-fits : {A : Type 0} (x y : List A) → length y ≡ length x → length (chosen backward x y) ≡ length (chosen backward columns columns′)
+        → (s ≤ e) × (e ≤ length x) × (e ≤ length y)
+    part-fits x y alike paired =
+        let k : e ≤ length (chosen backward columns columns′) = rw (q, add-one) (start-inside (r .rowed) (suc v) h) in
+        let l : e ≤ length x = omega (arith, paired, chosen-long backward x y alike) in
+        (rw (p, q, add-one) (r .rowed .rises v h), l, omega arith)
+
+    -- of the columns
+    pub columns-fit : (s ≤ e) × (e ≤ length columns) × (e ≤ length columns′)
+    columns-fit = part-fits columns columns′ (r .columns-alike) refl
+
+    -- of the weights
+    pub weights-fit : (s ≤ e) × (e ≤ length weights) × (e ≤ length weights′)
+    weights-fit = part-fits weights weights′ (r .weights-alike) (r .rowed .paired)
+
+  -- a way with the rows has their degrees
+  pub weighs : (way : Way) → Stands n backward starts columns columns′ weights weights′ outs way → (v : ℕ) → v < n → Weighs degrees v way
+  unfolding degreeOf
+  weighs way s v h = degree-at (r .rowed) v h (r .degrees-are) ∙ ap degree (sym (s .rows v h))
+
+-- a way that the buffers stand for
+pub wayIn : Bool → List ℕ → List ℕ → List ℕ → List Float → List Float → List Float → Way
+wayIn backward starts columns columns′ weights weights′ outs =
+    wayOf backward (λ v. rowIn (getD starts v 0) (getD starts (suc v) 0) (chosen backward columns columns′) (chosen backward weights weights′)) (at outs)
+
+pub stands : (n : ℕ) (backward : Bool) (starts columns columns′ : List ℕ) (weights weights′ outs : List Float)
+    → Stands n backward starts columns columns′ weights weights′ outs (wayIn backward starts columns columns′ weights weights′ outs)
+unfolding wayIn wayOf
+stands n backward starts columns columns′ weights weights′ outs = record { rows = λ v h. refl; shares = λ rest degree x h. refl }

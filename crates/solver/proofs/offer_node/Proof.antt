@@ -1,0 +1,60 @@
+-- `solver::offer_node` meets its contract, by `offer-state`. Assumes nothing.
+use mathlib.Core.Path.{_∙_}
+use denote.Ref.{now}
+use Rattle.solver.proofs.Moves.{offer-state}
+use borrow.Author.Needs.{needs}
+use Rattle.solver.proofs.offer_node.Statement.{statement}
+use Rattle.solver.proofs.offer_node.Tie as tie
+
+mul-priority : tie.Need-mul-priority
+mul-priority c = search needs
+
+shared-slice-read-priority : tie.Need-shared-slice-read-priority
+shared-slice-read-priority c = search needs
+
+mul-effective : tie.Need-mul-effective
+mul-effective c = search needs
+
+shared-slice-read-effective : tie.Need-shared-slice-read-effective
+shared-slice-read-effective c = search needs
+
+effective-requires : tie.Need-effective-requires
+effective-requires c κs = search needs
+
+push-if-threshold-requires : tie.Need-push-if-threshold-requires
+push-if-threshold-requires c κs = search needs
+
+same-length : tie.Need-same-length
+same-length c = search needs
+
+same-length-2 : tie.Need-same-length-2
+same-length-2 c = search needs
+
+same-length-3 : tie.Need-same-length-3
+same-length-3 c = search needs
+
+returns : tie.Need-returns
+returns c =
+    let s = c .before .before .before .before .before .before .before .before .before .before .before .before .before .before .before .before .before .before in
+    let a = s .args in
+    let o = c .before .before .before .before .before .before .push-if-threshold in
+    record {
+      lent = record { heap = o .ensures .1 .heap; wide = o .ensures .1 .same-room ∙ s .pre .lent .wide; residual-long = s .pre .lent .residual-long };
+      state = λ way d. offer-state way _ (a .v) _ (now (a .residual)) (a .q) (o .result) (now (a .priorities)) (now (a .nodes)) (o .last .1 .0) (o .last .1 .1 .0)
+          d (o .ensures .0) (rw (c .before .before .before .before .before .before .before .before .before .before .effective .ensures) at (o .ensures .1 .view));
+    }
+
+pub offer-node-spec : {M : Type 1} → statement M
+offer-node-spec =
+    tie.close
+    (tie.spec
+    mul-priority
+    shared-slice-read-priority
+    mul-effective
+    shared-slice-read-effective
+    effective-requires
+    push-if-threshold-requires
+    same-length
+    same-length-2
+    same-length-3
+    returns)

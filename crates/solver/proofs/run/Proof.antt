@@ -1,0 +1,127 @@
+-- `solver::run` meets its contract. Invariant: `Running`. The measure is that of the rules. Assumes nothing.
+use native.Mathlib.Omega.{arith}
+use mathlib.Core.Path.{refl, sym, ap, _∙_}
+use denote.Ref.{now}
+use lib.ListN.{length}
+use Rattle.rules.proofs.Ends.{measure, end, solve-end}
+use Rattle.solver.specs.States.{watchIn, stateIn}
+use Rattle.solver.proofs.Standing.{wayIn, stands}
+use Rattle.solver.proofs.Running.{Running, going, goes, halts}
+use Rattle.solver.proofs.run.Statement.{statement}
+use Rattle.solver.proofs.run.Tie as tie
+
+abbrev Inv-loop : tie.InvT-loop
+Inv-loop settings backward watch starts columns reverse-columns weights reverse-weights degrees outs estimate₀ residual₀ priorities₀ nodes₀ queued₀ visited₀ w₀ estimate residual priorities nodes queued visited w =
+    Running settings backward (watchIn watch) starts columns reverse-columns weights reverse-weights degrees outs estimate₀ residual₀ priorities₀ nodes₀ queued₀ visited₀ w₀ estimate residual priorities nodes queued visited w
+
+abbrev μ-loop : tie.MeasureT-loop
+μ-loop settings backward watch starts columns reverse-columns weights reverse-weights degrees outs estimate₀ residual₀ priorities₀ nodes₀ queued₀ visited₀ w₀ estimate residual priorities nodes queued visited w = measure settings (stateIn (length degrees) estimate residual w priorities nodes visited)
+
+loop-holds : tie.Need-loop-holds Inv-loop μ-loop
+loop-holds c = record { ready = c .before .before .before .before .before .before .before .before .before .before .before .before .before .pre; same-queued = refl; same-visited = refl; beyond = λ u h. refl; left = λ way st. refl }
+
+goes-on-requires : tie.Need-goes-on-requires Inv-loop μ-loop
+goes-on-requires c κs =
+    let y = c .before .before .loop .inv .ready in
+    y .lent .residual-long ∙ sym (y .estimate-long)
+
+turn-requires : tie.Need-turn-requires Inv-loop μ-loop
+unfolding stateIn
+turn-requires c κs =
+    let a = c .before .before .before .before .before .before .before .before .before .before .before .before .before .before .before .before .before .before .before .before .before .before .before .before .args in
+    let l = c .before .before .before .before .before .before .before .before .before .before .loop in
+    let g = going (a .settings) (watchIn (a .watch)) _ (l .w .queue .size)
+    (sym (c .before .before .before .before .before .before .before .goes-on .ensures (length (now (a .degrees))) (l .priorities) (l .nodes) (l .visited)) ∙ c .before .before .before .before .before .before .if1 .taken) in
+    (l .inv .ready, g .2, g .0)
+
+loop-less : tie.Need-loop-less Inv-loop μ-loop
+unfolding stateIn
+loop-less c =
+    let a = c .before .before .before .before .before .before .before .before .before .before .before .before .before .before .before .before .before .before .before .before .before .before .before .before .before .before .before .before .before .before .before .before .before .before .before .before .before .args in
+    let l = c .before .before .before .before .before .before .before .before .before .before .before .before .before .before .before .before .before .before .before .before .before .before .before .loop in
+    let t = c .before .before .before .before .before .before .before .before .before .before .before .before .turn in
+    let n = length (now (a .degrees)) in
+    let way = wayIn (a .backward) (now (a .starts)) (now (a .columns)) (now (a .reverse-columns)) (now (a .weights)) (now (a .reverse-weights)) (now (a .outs)) in
+    let st = stands n (a .backward) (now (a .starts)) (now (a .columns)) (now (a .reverse-columns)) (now (a .weights)) (now (a .reverse-weights)) (now (a .outs)) in
+    goes (a .settings) (watchIn (a .watch)) (stateIn n (l .estimate) (l .residual) (l .w) (l .priorities) (l .nodes) (l .visited)) (l .w .queue .size)
+    (sym (c .before .before .before .before .before .before .before .before .before .before .before .before .before .before .before .before .before .before .before .before .goes-on .ensures n (l .priorities) (l .nodes) (l .visited)) ∙ c .before .before .before .before .before .before .before .before .before .before .before .before .before .before .before .before .before .before .before .if1 .taken) way (t .ensures .node) (t .ensures .priority) (t .ensures .was-next) _
+    (t .ensures .after .state way st) .1
+
+loop-again : tie.Need-loop-again Inv-loop μ-loop
+unfolding stateIn
+loop-again c =
+    let a = c .before .before .before .before .before .before .before .before .before .before .before .before .before .before .before .before .before .before .before .before .before .before .before .before .before .before .before .before .before .before .before .before .before .before .before .before .before .args in
+    let l = c .before .before .before .before .before .before .before .before .before .before .before .before .before .before .before .before .before .before .before .before .before .before .before .loop in
+    let t = c .before .before .before .before .before .before .before .before .before .before .before .before .turn in
+    let y = l .inv .ready in
+    let n = length (now (a .degrees)) in
+    record {
+      ready =
+          record {
+            rows = y .rows;
+            lent = t .ensures .after .lent;
+            estimate-long = t .kept .1 .1 .1 .1 .1 .1 .1 .1 .1 .1 .0 ∙ y .estimate-long;
+            visited-room = rw (t .kept .1 .1 .1 .1 .1 .1 .1 .1 .1 .1 .1 .1 .1 .1 .1 .0) (y .visited-room);
+          };
+      same-queued = t .kept .1 .1 .1 .1 .1 .1 .1 .1 .1 .1 .1 .1 .1 .1 .0 ∙ l .inv .same-queued;
+      same-visited = t .kept .1 .1 .1 .1 .1 .1 .1 .1 .1 .1 .1 .1 .1 .1 .1 .0 ∙ l .inv .same-visited;
+      beyond = λ u h. t .ensures .after .beyond u h ∙ l .inv .beyond u h;
+      left = λ way st.
+          goes (a .settings) (watchIn (a .watch)) (stateIn n (l .estimate) (l .residual) (l .w) (l .priorities) (l .nodes) (l .visited)) (l .w .queue .size)
+          (sym (c .before .before .before .before .before .before .before .before .before .before .before .before .before .before .before .before .before .before .before .before .goes-on .ensures n (l .priorities) (l .nodes) (l .visited)) ∙ c .before .before .before .before .before .before .before .before .before .before .before .before .before .before .before .before .before .before .before .if1 .taken) way (t .ensures .node) (t .ensures .priority) (t .ensures .was-next) _
+          (t .ensures .after .state way st) .0
+          ∙ l .inv .left way st;
+    }
+
+same-length : tie.Need-same-length Inv-loop μ-loop
+same-length c = omega (arith, c .before .before .before .before .loop .inv .ready, c .before .before .before .before .before .before .before .before .before .before .before .before .before .before .before .before .before .before .pre)
+
+same-length-2 : tie.Need-same-length-2 Inv-loop μ-loop
+same-length-2 c = omega (arith, c .before .before .before .before .loop .inv .ready, c .before .before .before .before .before .before .before .before .before .before .before .before .before .before .before .before .before .before .pre)
+
+same-length-3 : tie.Need-same-length-3 Inv-loop μ-loop
+same-length-3 c = omega (arith, c .before .before .before .before .loop .inv .ready, c .before .before .before .before .before .before .before .before .before .before .before .before .before .before .before .before .before .before .pre)
+
+same-length-4 : tie.Need-same-length-4 Inv-loop μ-loop
+same-length-4 c = omega (arith, c .before .before .before .before .loop .inv .ready, c .before .before .before .before .before .before .before .before .before .before .before .before .before .before .before .before .before .before .pre)
+
+same-length-5 : tie.Need-same-length-5 Inv-loop μ-loop
+same-length-5 c = c .before .before .before .before .loop .inv .same-queued
+
+same-length-6 : tie.Need-same-length-6 Inv-loop μ-loop
+same-length-6 c = c .before .before .before .before .loop .inv .same-visited
+
+returns : tie.Need-returns Inv-loop μ-loop
+unfolding stateIn
+returns c =
+    let a = c .before .before .before .before .before .before .before .before .before .before .before .before .before .before .before .before .before .before .args in
+    let l = c .before .before .before .before .loop in
+    let y = l .inv .ready in
+    let n = length (now (a .degrees)) in
+    record {
+      lent = y .lent;
+      state = λ way st sources begun.
+          halts (a .settings) (watchIn (a .watch)) (stateIn n (l .estimate) (l .residual) (l .w) (l .priorities) (l .nodes) (l .visited)) (l .w .queue .size)
+          (sym (c .before .goes-on .ensures n (l .priorities) (l .nodes) (l .visited)) ∙ c .if1 .left) (y .lent .heap .count) way
+          ∙ l .inv .left way st ∙ ap (end way (a .settings) (watchIn (a .watch))) begun ∙ sym (solve-end way (a .settings) (watchIn (a .watch)) n sources);
+      beyond = l .inv .beyond;
+    }
+
+pub run-spec : {M : Type 1} → statement M
+run-spec =
+    tie.close
+    (tie.spec
+    Inv-loop
+    μ-loop
+    loop-holds
+    goes-on-requires
+    turn-requires
+    loop-less
+    loop-again
+    same-length
+    same-length-2
+    same-length-3
+    same-length-4
+    same-length-5
+    same-length-6
+    returns)

@@ -1,0 +1,26 @@
+-- `solver::stopped` meets its contract. Assumes nothing.
+use Rattle.rules.specs.Rules.{stops}
+use Rattle.solver.specs.States.{watchIn}
+use borrow.Author.Needs.{needs}
+use Rattle.solver.proofs.stopped.Statement.{statement}
+use Rattle.solver.proofs.stopped.Tie as tie
+
+enum-told : tie.Need-enum-told
+enum-told c = search needs
+
+enum-known-watch : tie.Need-enum-known-watch
+enum-known-watch c = search needs
+
+is-enough-requires : tie.Need-is-enough-requires
+is-enough-requires c κs = search needs
+
+returns : tie.Need-returns
+unfolding watchIn stops
+returns c = λ n p ps ns vs. rw (c .enum-told .given .1)
+
+returns-2 : tie.Need-returns-2
+unfolding watchIn
+returns-2 c = λ n p ps ns vs. rw (c .before .before .watch .given .1) (c .is-enough .ensures n p ps ns vs)
+
+pub stopped-spec : {M : Type 1} → statement M
+stopped-spec = tie.close (tie.spec enum-told enum-known-watch is-enough-requires returns returns-2)

@@ -1,0 +1,99 @@
+-- What the functions ensure: the state after is a rule's of the state before, for every way that is meant. What a function does not touch is quantified.
+-- Assumes nothing.
+use Prim.Native.Nat.{ℕ, _%_}
+use mathlib.Core.Bool.{Bool, not, _&&_}
+use mathlib.Core.List.{List}
+use mathlib.Core.Path.{_≡_}
+use lib.ListN.{length, set}
+use lib.Dec.{ltb, eqb}
+use lib.Ieee.{Float}
+use Rattle.numbers.specs.Numbers.{+0, _⊕_, _⊗_}
+use Rattle.numbers.specs.Choice.{if_then_else_}
+use Rattle.refusals.specs.declared.Settings.{Settings}
+use Rattle.queue.specs.Waiting.{best, next, usual, adapted}
+use Rattle.queue.specs.Heap.{waiting}
+use Rattle.queue.specs.declared.WorkQueue.{WorkQueue}
+use Rattle.rules.specs.Ways.{Way}
+use Rattle.rules.specs.Rules.{State, Watch, at, stops, turn, start, solve}
+use Rattle.solver.specs.States.{progress, stateIn, SameBeyond, NoneBeyond}
+use Rattle.solver.specs.Buffers.{Lent}
+use Rattle.solver.specs.declared.Progress.{Progress}
+
+-- the residual and the queue
+pub record Moved (meant : Way → Type 0) (f : Way → State → State) (n : ℕ) (residual : List Float) (q : WorkQueue) (priorities : List Float) (nodes : List ℕ)
+    (residual′ : List Float) (q′ : WorkQueue) (priorities′ : List Float) (nodes′ queued′ : List ℕ) : Type 0 where
+  pub lent : Lent n q′ residual′ priorities′ nodes′ queued′
+  pub state : (way : Way) → meant way → (estimate : List Float) (pushes : ℕ) (visited : List ℕ)
+      → stateIn n estimate residual′ (progress q′ pushes) priorities′ nodes′ visited ≡ f way (stateIn n estimate residual (progress q pushes) priorities nodes visited)
+
+-- the estimate, the residual and the queue
+pub record Pushed (meant : Way → Type 0) (f : Way → State → State) (n : ℕ) (estimate residual : List Float) (q : WorkQueue) (priorities : List Float) (nodes : List ℕ)
+    (estimate′ residual′ : List Float) (q′ : WorkQueue) (priorities′ : List Float) (nodes′ queued′ : List ℕ) : Type 0 where
+  pub lent : Lent n q′ residual′ priorities′ nodes′ queued′
+  pub state : (way : Way) → meant way → (pushes : ℕ) (visited : List ℕ)
+      → stateIn n estimate′ residual′ (progress q′ pushes) priorities′ nodes′ visited ≡ f way (stateIn n estimate residual (progress q pushes) priorities nodes visited)
+
+-- the whole state
+pub record Visited (meant : Way → Type 0) (f : Way → State → State) (n : ℕ) (estimate residual : List Float) (p : Progress) (priorities : List Float) (nodes visited : List ℕ)
+    (estimate′ residual′ : List Float) (p′ : Progress) (priorities′ : List Float) (nodes′ queued′ visited′ : List ℕ) : Type 0 where
+  pub lent : Lent n (p′ .queue) residual′ priorities′ nodes′ queued′
+  pub state : (way : Way) → meant way → stateIn n estimate′ residual′ p′ priorities′ nodes′ visited′ ≡ f way (stateIn n estimate residual p priorities nodes visited)
+  pub beyond : SameBeyond n visited visited′
+
+-- ---- the parts of a visit
+
+-- the estimate of v took its part of the residual, which is cleared
+pub record Absorbed (alpha : Float) (v : ℕ) (estimate residual estimate′ residual′ : List Float) : Type 0 where
+  pub estimate-is : estimate′ ≡ set estimate v (at estimate v ⊕ (alpha ⊗ at residual v))
+  pub residual-is : residual′ ≡ set residual v +0
+
+-- the threshold adapts where a number of pushes is reached
+pub record Adapted (adaptive : Bool) (pushes : ℕ) (q q′ : WorkQueue) : Type 0 where
+  pub threshold-is : q′ .threshold ≡ (if adaptive && eqb (pushes % usual .step) 0 then adapted usual (q .size) (q .threshold) else q .threshold)
+  pub same-size : q′ .size ≡ q .size
+
+-- ---- the loop
+
+-- the node that was next left the queue and was visited
+pub record Turned (meant : Way → Type 0) (settings : Settings) (n : ℕ) (estimate residual : List Float) (p : Progress) (priorities : List Float) (nodes visited : List ℕ)
+    (estimate′ residual′ : List Float) (p′ : Progress) (priorities′ : List Float) (nodes′ queued′ visited′ : List ℕ) : Type 0 where
+  pub node : ℕ
+  pub priority : Float
+  pub was-next : next (waiting (p .queue .size) priorities nodes) ≡ best node priority
+  pub after : Visited meant (λ way. turn way settings node) n estimate residual p priorities nodes visited estimate′ residual′ p′ priorities′ nodes′ queued′ visited′
+
+-- r is the early stop
+abbrev pub Stops : Watch → List Float → List Float → Bool → Type 0
+Stops watch estimate residual r =
+    (n : ℕ) (p : Progress) (priorities : List Float) (nodes visited : List ℕ) → r ≡ stops watch (stateIn n estimate residual p priorities nodes visited)
+
+-- a push is left, nothing stops the run, and somebody waits
+unfoldable pub goesOn : Settings → Watch → State → ℕ → Bool
+goesOn settings watch s size = ltb (s .pushes) (settings .«max_pushes») && (not (stops watch s) && ltb 0 size)
+
+-- r is the test of the loop
+abbrev pub Continues : Settings → Watch → Progress → List Float → List Float → Bool → Type 0
+Continues settings watch p estimate residual r =
+    (n : ℕ) (priorities : List Float) (nodes visited : List ℕ) → r ≡ goesOn settings watch (stateIn n estimate residual p priorities nodes visited) (p .queue .size)
+
+-- a run from where a solve starts comes to where it ends
+pub record Ran (meant : Way → Type 0) (settings : Settings) (watch : Watch) (n : ℕ) (estimate residual : List Float) (p : Progress) (priorities : List Float) (nodes visited : List ℕ)
+    (estimate′ residual′ : List Float) (p′ : Progress) (priorities′ : List Float) (nodes′ queued′ visited′ : List ℕ) : Type 0 where
+  pub lent : Lent n (p′ .queue) residual′ priorities′ nodes′ queued′
+  pub state : (way : Way) → meant way → (sources : List ℕ) → stateIn n estimate residual p priorities nodes visited ≡ start way settings watch n sources
+      → stateIn n estimate′ residual′ p′ priorities′ nodes′ visited′ ≡ solve way settings watch n sources
+  pub beyond : SameBeyond n visited visited′
+
+-- ---- the start, and the whole
+
+-- the residual alone
+pub record Gained (f : State → State) (residual residual′ : List Float) : Type 0 where
+  pub same-length : length residual′ ≡ length residual
+  pub state : (n : ℕ) (estimate : List Float) (p : Progress) (priorities : List Float) (nodes visited : List ℕ)
+      → stateIn n estimate residual′ p priorities nodes visited ≡ f (stateIn n estimate residual p priorities nodes visited)
+
+-- the whole state, by the way and by nothing that the buffers held before
+pub record Begun (meant : Way → Type 0) (f : Way → State) (n : ℕ) (estimate residual : List Float) (p : Progress) (priorities : List Float) (nodes queued visited : List ℕ) : Type 0 where
+  pub lent : Lent n (p .queue) residual priorities nodes queued
+  pub state : (way : Way) → meant way → stateIn n estimate residual p priorities nodes visited ≡ f way
+  pub beyond : NoneBeyond n visited
