@@ -126,6 +126,13 @@ module _ (way : Way) (settings : Settings) (watch : Watch) where
       let k = measure settings s in
       sym (run-more k (suc k) s (omega arith) (omega arith)) ∙ run-turns k s v p e ∙ run-more (measure settings (turn way settings v s)) k _ (omega arith) (omega arith)
 
+  -- and where any number of turns that is enough leads
+  pub end-run : (turns : ℕ) (s : State) → due settings watch (run way settings watch turns s) ≡ nobody → end s ≡ run way settings watch turns s
+  unfolding end
+  end-run turns s e =
+      let k = measure settings s in
+      sym (run-more k (turns + k) s (omega arith) (omega arith)) ∙ run-add turns k s ∙ run-stays k _ e
+
   -- ---- a solve
 
   module _ (n : ℕ) (sources : List ℕ) where
@@ -147,8 +154,3 @@ module _ (way : Way) (settings : Settings) (watch : Watch) where
     pub solve-more : (turns : ℕ) → enough settings n ≤ turns → run way settings watch turns (start way settings watch n sources) ≡ solve way settings watch n sources
     unfolding solve
     solve-more turns l = run-more (enough settings n) turns _ start-measure l
-
-    -- It is where a run from the start ends.
-    pub solve-end : solve way settings watch n sources ≡ end (start way settings watch n sources)
-    unfolding solve end
-    solve-end = run-more _ (enough settings n) _ (omega arith) start-measure

@@ -14,6 +14,7 @@ use Rattle.refusals.specs.declared.Settings.{Settings}
 use Rattle.refusals.specs.Refusals.{any}
 use Rattle.norm.specs.SquareRoot.{Root}
 use Rattle.norm.specs.Norm.{Norm, addSquares}
+use Rattle.norm.proofs.Examples as Roots
 use Rattle.marks.specs.Marks.{howMany}
 use Rattle.graph.specs.Rows.{Link, link, kept, gives, rowOf, rowsOf, sumFrom, degree, into, intoFrom, transposed}
 use Rattle.queue.specs.Waiting.{out, taken, answer, offered, better, bestFrom, next, usual, adapted}
@@ -195,8 +196,8 @@ worked =
       light-backward = refl;
       share-lost = refl;
       share-lost-norm = record { q = 2 ^ 52; k = 1021; is = refl; near = record { from = lit≤ tt; to = lit< tt; over = lit< tt; under = lit< tt } };
-      root-two = record { q = 6369051672525773; k = 1022; is = refl; near = record { from = lit≤ tt; to = lit< tt; over = lit< tt; under = lit< tt } };
-      root-least = record { q = 2 ^ 52; k = 485; is = refl; near = record { from = lit≤ tt; to = lit< tt; over = lit< tt; under = lit< tt } };
+      root-two = Roots.two;
+      root-least = Roots.least;
       product-first = refl;
       quotient-first = refl;
       light-forward = refl;

@@ -3,7 +3,7 @@ use Prim.Native.Nat.{ℕ, _<_}
 use native.Mathlib.Omega.{arith}
 use mathlib.Core.Bool.{Bool, true, false, not, _&&_}
 use mathlib.Core.List.{List}
-use mathlib.Core.Path.{_≡_, refl, sym, _∙_}
+use mathlib.Core.Path.{_≡_, refl, sym, ap, _∙_}
 use borrow.Author.Tests.{lt-ltb, ltb-true, ltb-false, not-true}
 use lib.ListN.{length}
 use lib.Dec.{ltb}
@@ -13,8 +13,8 @@ use Rattle.numbers.proofs.Tests.{both}
 use Rattle.refusals.specs.declared.Settings.{Settings}
 use Rattle.queue.specs.Waiting.{taken, nobody, best, next}
 use Rattle.rules.specs.Ways.{Way}
-use Rattle.rules.specs.Rules.{State, Watch, stops, due, turn}
-use Rattle.rules.proofs.Ends.{measure, falls, end, end-stays, end-turn}
+use Rattle.rules.specs.Rules.{State, Watch, stops, due, turn, run, start, enough, solve}
+use Rattle.rules.proofs.Ends.{measure, falls, end, end-stays, end-turn, solve-ends}
 use Rattle.solver.specs.States.{SameBeyond, stateIn}
 use Rattle.solver.specs.Buffers.{Ready}
 use Rattle.solver.specs.Meant.{Stands}
@@ -54,6 +54,13 @@ module _ (settings : Settings) (watch : Watch) (s : State) (size : ℕ) where
       go false b f = refl
       go true true f = refl
       go true false f = let z = ltb-false 0 size f in next-none (s .slots) (omega arith)
+
+-- the state t after a run from where a solve starts
+pub solved : (way : Way) (settings : Settings) (watch : Watch) (n : ℕ) (sources : List ℕ) (s t : State) → s ≡ start way settings watch n sources
+    → ((turns : ℕ) → due settings watch (run way settings watch turns s) ≡ nobody → t ≡ run way settings watch turns s) → t ≡ solve way settings watch n sources
+unfolding solve
+solved way settings watch n sources s t e f =
+    f (enough settings n) (rw e (solve-ends way settings watch n sources)) ∙ ap (run way settings watch (enough settings n)) e
 
 -- what holds between two turns
 pub record Running (settings : Settings) (backward : Bool) (watch : Watch) (starts columns columns′ : List ℕ) (weights weights′ degrees outs : List Float)

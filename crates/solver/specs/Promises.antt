@@ -10,11 +10,11 @@ use lib.Ieee.{Float}
 use Rattle.numbers.specs.Numbers.{+0, _⊕_, _⊗_}
 use Rattle.numbers.specs.Choice.{if_then_else_}
 use Rattle.refusals.specs.declared.Settings.{Settings}
-use Rattle.queue.specs.Waiting.{best, next, usual, adapted}
+use Rattle.queue.specs.Waiting.{nobody, best, next, usual, adapted}
 use Rattle.queue.specs.Heap.{waiting}
 use Rattle.queue.specs.declared.WorkQueue.{WorkQueue}
 use Rattle.rules.specs.Ways.{Way}
-use Rattle.rules.specs.Rules.{State, Watch, at, stops, turn, start, solve}
+use Rattle.rules.specs.Rules.{State, Watch, at, stops, due, turn, run}
 use Rattle.solver.specs.States.{progress, stateIn, SameBeyond, NoneBeyond}
 use Rattle.solver.specs.Buffers.{Lent}
 use Rattle.solver.specs.declared.Progress.{Progress}
@@ -76,12 +76,12 @@ abbrev pub Continues : Settings → Watch → Progress → List Float → List F
 Continues settings watch p estimate residual r =
     (n : ℕ) (priorities : List Float) (nodes visited : List ℕ) → r ≡ goesOn settings watch (stateIn n estimate residual p priorities nodes visited) (p .queue .size)
 
--- a run from where a solve starts comes to where it ends
+-- turns were taken until it was nobody's: whatever number of turns is enough, the state is the one after so many
 pub record Ran (meant : Way → Type 0) (settings : Settings) (watch : Watch) (n : ℕ) (estimate residual : List Float) (p : Progress) (priorities : List Float) (nodes visited : List ℕ)
     (estimate′ residual′ : List Float) (p′ : Progress) (priorities′ : List Float) (nodes′ queued′ visited′ : List ℕ) : Type 0 where
   pub lent : Lent n (p′ .queue) residual′ priorities′ nodes′ queued′
-  pub state : (way : Way) → meant way → (sources : List ℕ) → stateIn n estimate residual p priorities nodes visited ≡ start way settings watch n sources
-      → stateIn n estimate′ residual′ p′ priorities′ nodes′ visited′ ≡ solve way settings watch n sources
+  pub state : (way : Way) → meant way → (turns : ℕ) → due settings watch (run way settings watch turns (stateIn n estimate residual p priorities nodes visited)) ≡ nobody
+      → stateIn n estimate′ residual′ p′ priorities′ nodes′ visited′ ≡ run way settings watch turns (stateIn n estimate residual p priorities nodes visited)
   pub beyond : SameBeyond n visited visited′
 
 -- ---- the start, and the whole

@@ -1,9 +1,9 @@
 -- `solver::run` meets its contract. Invariant: `Running`. The measure is that of the rules. Assumes nothing.
 use native.Mathlib.Omega.{arith}
-use mathlib.Core.Path.{refl, sym, ap, _∙_}
+use mathlib.Core.Path.{refl, sym, _∙_}
 use denote.Ref.{now}
 use lib.ListN.{length}
-use Rattle.rules.proofs.Ends.{measure, end, solve-end}
+use Rattle.rules.proofs.Ends.{measure, end-run}
 use Rattle.solver.specs.States.{watchIn, stateIn}
 use Rattle.solver.proofs.Standing.{wayIn, stands}
 use Rattle.solver.proofs.Running.{Running, going, goes, halts}
@@ -100,10 +100,10 @@ returns c =
     let n = length (now (a .degrees)) in
     record {
       lent = y .lent;
-      state = λ way st sources begun.
+      state = λ way st turns e.
           halts (a .settings) (watchIn (a .watch)) (stateIn n (l .estimate) (l .residual) (l .w) (l .priorities) (l .nodes) (l .visited)) (l .w .queue .size)
           (sym (c .before .goes-on .ensures n (l .priorities) (l .nodes) (l .visited)) ∙ c .if1 .left) (y .lent .heap .count) way
-          ∙ l .inv .left way st ∙ ap (end way (a .settings) (watchIn (a .watch))) begun ∙ sym (solve-end way (a .settings) (watchIn (a .watch)) n sources);
+          ∙ l .inv .left way st ∙ end-run way (a .settings) (watchIn (a .watch)) turns _ e;
       beyond = l .inv .beyond;
     }
 

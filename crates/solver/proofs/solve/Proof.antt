@@ -1,7 +1,10 @@
--- `solver::solve` meets its contract: the start, and the run from there. Assumes nothing.
+-- `solver::solve` meets its contract: the start, and the run from there (`solved`). Assumes nothing.
 use mathlib.Core.Path.{_∙_}
 use denote.Ref.{now}
+use lib.ListN.{length}
+use Rattle.solver.specs.States.{watchIn}
 use Rattle.solver.proofs.Standing.{weighs}
+use Rattle.solver.proofs.Running.{solved}
 use borrow.Author.Needs.{needs}
 use Rattle.solver.proofs.solve.Statement.{statement}
 use Rattle.solver.proofs.solve.Tie as tie
@@ -41,11 +44,14 @@ same-length-6 c = search needs
 returns : tie.Need-returns
 returns c =
     let s = c .before .before .before .before .before .before .before .before .before .before .before .before .before .before .before .before .before .before .before .before .before .before .before .before .before .before .before .before .before .before .before .before .before .before .before .before .before .before .before .before .before .before .before .before .before .before .before .before .before .before .before .before in
+    let a = s .args in
     let r = c .before .before .before .before .before .before .before .before .before .before .before .before .run in
     let t = c .before .before .before .before .before .before .before .before .before .before .before .before .before .before .before .before .before .before .before .before .before .before .before .before .before .before .before .before .before .before .before .start in
     record {
       lent = r .ensures .lent;
-      state = λ way st. r .ensures .state way st (now (s .args .sources)) (t .ensures .state way (weighs (s .pre .0) way st));
+      state = λ way st.
+          solved way (a .settings) (watchIn (a .watch)) (length (now (a .degrees))) (now (a .sources)) _ _ (t .ensures .state way (weighs (s .pre .0) way st))
+          (r .ensures .state way st);
       beyond = λ u h. r .ensures .beyond u h ∙ t .ensures .beyond u h;
     }
 

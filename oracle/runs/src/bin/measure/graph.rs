@@ -32,10 +32,20 @@ pub fn measure(random: &mut Random) {
     of_size(random, "65,536 nodes, 1,048,576 links", 65_536, 1_048_576, 15);
 }
 
+/// Each side once, at the largest size: for a tool that counts instructions.
+pub fn once(random: &mut Random) {
+    let edges = drawn(random, 65_536, 1_048_576);
+    Ours::new(65_536, &edges).all();
+    drop(black_box(PushGraph::from_edges(65_536, black_box(&edges))));
+}
+
+/// Random links among the nodes.
+fn drawn(random: &mut Random, nodes: u64, links: usize) -> Vec<(usize, usize, f64)> {
+    (0..links).map(|_| (random.below(nodes) as usize, random.below(nodes) as usize, random.unit())).collect()
+}
+
 fn of_size(random: &mut Random, name: &str, nodes: u64, links: usize, rounds: usize) {
-    let edges: Vec<(usize, usize, f64)> = (0..links)
-        .map(|_| (random.below(nodes) as usize, random.below(nodes) as usize, random.unit()))
-        .collect();
+    let edges = drawn(random, nodes, links);
     let mut ours = Ours::new(nodes as usize, &edges);
     let nodes = nodes as usize;
     let theirs = || drop(black_box(PushGraph::from_edges(nodes, black_box(&edges))));

@@ -1,16 +1,21 @@
 //! Measures the proved library beside the Rust, in one run. A ratio above 1 says that the proved library takes longer.
+//! `measure once` builds the largest graph once by each side, untimed, for a tool that counts instructions.
 mod graph;
 mod heap;
 
 use runs::entries;
 use runs::random::Random;
 use runs::timing::interleaved;
+use std::env;
 use std::hint::black_box;
 
 const ROUNDS: usize = 101;
 
 fn main() {
     let mut random = Random::new(1);
+    if env::args().nth(1).as_deref() == Some("once") {
+        return graph::once(&mut random);
+    }
     square_root(&mut random);
     norm(&mut random);
     graph::measure(&mut random);
