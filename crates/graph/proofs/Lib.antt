@@ -9,6 +9,7 @@ pub mod Passes
 pub mod Inside
 pub mod Compress
 pub mod Read
+pub mod Given
 pub mod Back
 pub mod Turn
 pub mod Walk

@@ -1,8 +1,8 @@
 -- The ones of the words, counted word by word, are as many as the nodes that are marked. Assumes nothing.
 use mathlib.Core.Path.{_≡_, refl, sym, ap, ap₂, _∙_, subst}
-use mathlib.Core.Bool.{Bool, cond}
+use mathlib.Core.Bool.{Bool, false, cond}
 use mathlib.Core.List.{List, [], _∷_, _++_}
-use Prim.Native.Nat.{ℕ, zero, suc, _+_, _*_, _/_, _%_, _^_, _<_, suc-le-suc, zero-le}
+use Prim.Native.Nat.{ℕ, zero, suc, _+_, _*_, _/_, _%_, _^_, _<_, _≤_, suc-le-suc, zero-le}
 use native.Mathlib.Nat.{add-zero, add-suc, zero-add, add-assoc, add-left-comm, mod-lt, zero-lt-suc, le-refl, le-suc, le-trans, div-one}
 use native.Mathlib.Numerals.{add-one, one-add}
 use native.Mathlib.Omega.{arith}
@@ -44,6 +44,13 @@ unfolding howMany
 how-many-same zero f g h = refl
 how-many-same (suc n) f g h =
     ap₂ (λ (b : Bool) (x : ℕ). cond b 1 0 + x) (h n (le-refl (suc n))) (how-many-same n f g (λ k l. h k (le-trans l (le-suc n))))
+
+-- what passes no test from n on adds nothing to a count
+pub how-many-none : (n d : ℕ) (f : ℕ → Bool) → ((u : ℕ) → n ≤ u → f u ≡ false) → howMany (n + d) f ≡ howMany n f
+unfolding howMany
+how-many-none n zero f h = ap (λ (k : ℕ). howMany k f) (add-zero n)
+how-many-none n (suc d) f h =
+    ap (λ (k : ℕ). howMany k f) (add-suc n d) ∙ ap (λ (b : Bool). cond b 1 0 + howMany (n + d) f) (h (n + d) (omega arith)) ∙ zero-add _ ∙ how-many-none n d f h
 
 -- the ones of a word of k bits: its lowest bit, and those of the rest
 word-count : (k w : ℕ) → w < 2 ^ k → ones w ≡ howMany k (λ j. eqb (bit w j) 1)

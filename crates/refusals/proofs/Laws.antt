@@ -68,7 +68,7 @@ pub record Sized (n m s : ℕ) (ps : List (ℕ × ℕ)) : Type 0 where
   pub long : Alike ps
 
 -- from the number
-sized : (n m s : ℕ) (ps : List (ℕ × ℕ)) → sizes n m s ps ≡ 0 → Sized n m s ps
+pub sized : (n m s : ℕ) (ps : List (ℕ × ℕ)) → sizes n m s ps ≡ 0 → Sized n m s ps
 unfolding nodes links listed lengths
 sized n m s ps h =
     let a = or-zero _ _ h in
@@ -104,7 +104,7 @@ pub record Fine (n : ℕ) (starts columns : List ℕ) : Type 0 where
   pub inside : (i : ℕ) → i < length columns → getD columns i 0 < n
 
 -- from the number
-fine : (n : ℕ) (starts columns : List ℕ) → rows n starts columns ≡ 0 → Fine n starts columns
+pub fine : (n : ℕ) (starts columns : List ℕ) → rows n starts columns ≡ 0 → Fine n starts columns
 unfolding rows
 fine n starts columns h =
     let a = neither _ _ (when-zero 3 _ h) in

@@ -1,4 +1,4 @@
--- The buffers that `graph` fills stand for the way over its rows: what a caller of `solve` shows. Assumes nothing.
+-- Rows in lent buffers stand for the way over them: what a caller of `solve` shows. Assumes nothing.
 use Prim.Native.Nat.{ℕ, _<_}
 use mathlib.Core.Bool.{Bool}
 use mathlib.Core.List.{List, []}
@@ -6,21 +6,21 @@ use mathlib.Core.Path.{_≡_, sym, ap, _∙_}
 use lib.ListN.{getD}
 use lib.Ieee.{Float}
 use Rattle.numbers.specs.Choice.{if_then_else_}
-use Rattle.graph.specs.Rows.{Entry, degree, transposed}
-use Rattle.graph.specs.Store.{chosen, Held}
+use Rattle.graph.specs.Rows.{Entry, rowsIn, degree, transposed}
+use Rattle.graph.specs.Store.{chosen, Rowed}
 use Rattle.graph.proofs.Read.{row-at}
-use Rattle.graph.proofs.Back.{held-rows, held-rowed}
 use Rattle.rules.specs.Ways.{shareOf, wayOf, rowAt, over}
 use Rattle.rules.specs.Rules.{at}
 use Rattle.solver.specs.Meant.{Stands}
 
 -- the lists of the direction hold its rows, and the out-degrees are those of the graph
-pub stands-over : (n : ℕ) (backward : Bool) (rows : List (List Entry)) (m : ℕ) (starts columns columns′ : List ℕ) (weights weights′ outs : List Float)
-    → Held n (if backward then transposed n rows else rows) m starts (chosen backward columns columns′) (chosen backward weights weights′)
+pub stands-over : (n : ℕ) (backward : Bool) (rows : List (List Entry)) (starts columns columns′ : List ℕ) (weights weights′ outs : List Float)
+    → Rowed n starts (chosen backward columns columns′) (chosen backward weights weights′)
+    → rowsIn n starts (chosen backward columns columns′) (chosen backward weights weights′) ≡ (if backward then transposed n rows else rows)
     → ((v : ℕ) → v < n → at outs v ≡ degree (rowAt rows v)) → Stands n backward starts columns columns′ weights weights′ outs (over backward n rows)
 unfolding over wayOf
-stands-over n backward rows m starts columns columns′ weights weights′ outs h o =
+stands-over n backward rows starts columns columns′ weights weights′ outs h e o =
     record {
-      rows = λ v l. ap (λ (rs : List (List Entry)). getD rs v []) (sym (held-rows h)) ∙ row-at (held-rowed h) v l;
+      rows = λ v l. ap (λ (rs : List (List Entry)). getD rs v []) (sym e) ∙ row-at h v l;
       shares = λ rest d x l. ap (shareOf backward rest d (x .weight)) (sym (o (x .node) l));
     }

@@ -11,7 +11,7 @@ use Rattle.refusals.proofs.Laws.{refused, accepted, links-passed}
 use Rattle.graph.specs.Rows.{Entry, flat}
 use Rattle.graph.specs.Store.{Compressed}
 use Rattle.graph_entries.specs.Outcomes.{RowsLent, rowsLent, compressedIn, built, edgesRefusal, fromEdges}
-use Rattle.graph_entries.proofs.Given.{made}
+use Rattle.graph_entries.proofs.Made.{made}
 use borrow.Author.Needs.{needs}
 use Rattle.graph_entries.proofs.from_edges.Statement.{statement}
 use Rattle.graph_entries.proofs.from_edges.Tie as tie

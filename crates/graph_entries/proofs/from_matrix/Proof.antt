@@ -12,7 +12,8 @@ use Rattle.graph.specs.Store.{RowBuffers}
 use Rattle.graph.proofs.Read.{degrees-are}
 use Rattle.graph.proofs.Back.{held-rowed, held-degrees}
 use Rattle.graph_entries.specs.Outcomes.{RowsLent, rowsLent, graphLent, matrixRefusal, fromMatrix}
-use Rattle.graph_entries.proofs.Given.{rowed-of, summing-of, made}
+use Rattle.graph.proofs.Given.{rowed-of, summing-of}
+use Rattle.graph_entries.proofs.Made.{made}
 use borrow.Author.Needs.{needs}
 use Rattle.graph_entries.proofs.from_matrix.Statement.{statement}
 use Rattle.graph_entries.proofs.from_matrix.Tie as tie

@@ -8,7 +8,7 @@ use Rattle.refusals.proofs.Laws.{refused, accepted, rows-passed}
 use Rattle.graph.specs.Store.{Rowed}
 use Rattle.graph.proofs.Read.{degrees-are}
 use Rattle.graph_entries.specs.Outcomes.{sumsRefusal, rowSums}
-use Rattle.graph_entries.proofs.Given.{rowed-of, summing-of}
+use Rattle.graph.proofs.Given.{rowed-of, summing-of}
 use borrow.Author.Needs.{needs}
 use Rattle.graph_entries.proofs.row_sums.Statement.{statement}
 use Rattle.graph_entries.proofs.row_sums.Tie as tie

@@ -5,7 +5,8 @@ use Rattle.refusals.specs.Refusals.{lengths, unlike}
 use Rattle.refusals.specs.Calls.{left}
 use Rattle.refusals.proofs.Laws.{refused, accepted, rows-passed}
 use Rattle.graph_entries.specs.Outcomes.{rowsLent, transposeRefusal, transposing}
-use Rattle.graph_entries.proofs.Given.{rowed-of, made}
+use Rattle.graph.proofs.Given.{rowed-of}
+use Rattle.graph_entries.proofs.Made.{made}
 use borrow.Author.Needs.{needs}
 use Rattle.graph_entries.proofs.transpose.Statement.{statement}
 use Rattle.graph_entries.proofs.transpose.Tie as tie

@@ -7,10 +7,8 @@ use native.Mathlib.Omega.{arith}
 use lib.ListN.{length}
 use lib.Ieee.{Float}
 use Rattle.refusals.proofs.Laws.{Fine}
-use Rattle.graph.specs.Rows.{Entry}
-use Rattle.graph.specs.Store.{Rowed, Summing, Compressed}
+use Rattle.graph.specs.Store.{Rowed, Summing}
 use Rattle.graph.proofs.Read.{start-inside}
-use Rattle.graph_entries.specs.Outcomes.{rowsLent, compressedIn}
 
 -- the rows of a call with rows
 pub rowed-of : {n : ℕ} {starts columns : List ℕ} {weights : List Float} → length starts ≡ n + 1 → length weights ≡ length columns → Fine n starts columns → Rowed n starts columns weights
@@ -26,8 +24,3 @@ rowed-of {n} {starts} {columns} long paired f = record {
 -- rows that can be gone by can be summed
 pub summing-of : {n : ℕ} {starts columns : List ℕ} {weights : List Float} → Rowed n starts columns weights → Summing n (length weights) starts
 summing-of z = record { count = z .count; rises = z .rises; inside = λ v h. rw (z .paired) (start-inside z (suc v) h) }
-
--- what the sorts leave, as a call leaves it
-pub made : {r n m : ℕ} {rows : List (List Entry)} {s c : List ℕ} {w : List Float} {p : List ℕ} → Compressed r n rows m s c w p → rowsLent s c w p ≡ compressedIn n m rows
-unfolding compressedIn
-made h = cc

@@ -1,0 +1,4 @@
+-- The laws that the proofs of the public calls share.
+pub mod Counting
+pub mod Degrees
+pub mod Left

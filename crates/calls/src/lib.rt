@@ -1,0 +1,181 @@
+// What the public calls of the solvers share: the tests of lengths, the answers, and a solve that counts its nodes
+// and clears the queue's workspace.
+ghost use mathlib.Core.Bool.{false};
+ghost use mathlib.Core.Path.{_≡_};
+ghost use mathlib.Core.List.{[], _∷_};
+ghost use Prim.Native.Nat.{_+_};
+ghost use lib.ListN.{length, getD};
+ghost use Rattle.numbers.specs.Numbers.{+0};
+ghost use Rattle.refusals.specs.Refusals.{unlike};
+ghost use Rattle.rules.specs.Rules as Rules;
+ghost use Rattle.solver.specs.States.{watchIn};
+ghost use Rattle.solver.specs.Buffers.{Rows};
+ghost use Rattle.solver.specs.Meant.{Stands};
+ghost use Rattle.calls.specs.Lent.{words, answer, solveLent};
+ghost use Rattle.calls.specs.Promises.{Fits, Measured, Settled};
+use refusals::Settings;
+use solver::Watch;
+
+// How many pushes a solve made, and how many nodes it pushed.
+pub struct Counts {
+    pub pushes: u64,
+    pub visited: u64,
+}
+
+// What a solve answers. Number 0 is done.
+#[repr(C)]
+pub struct Solved {
+    pub refusal: u32,
+    pub push_count: u64,
+    pub nodes_visited: u64,
+    pub residual_norm: f64,
+}
+
+// What a query answers. Number 0 is done.
+#[repr(C)]
+pub struct Scored {
+    pub refusal: u32,
+    pub score: f64,
+}
+
+// Whether a test failed before, or a buffer of a solve among n nodes has another length than stated.
+pub fn unlike_solve(
+    before: bool,
+    n: u32,
+    estimate: usize,
+    residual: usize,
+    degrees: usize,
+    priorities: usize,
+    nodes: usize,
+    queued: usize,
+    visited: usize,
+) -> bool
+    ensures { λ r. ⌜ r ≡ unlike before ((estimate, n) ∷ (residual, n) ∷ (degrees, n) ∷ (priorities, n) ∷ (nodes, n) ∷ (queued, words n) ∷ (visited, words n) ∷ []) ⌝ }
+{
+    let k = n as usize;
+    let w = (k + 63) / 64;
+    before
+        | (estimate != k)
+        | (residual != k)
+        | (degrees != k)
+        | (priorities != k)
+        | (nodes != k)
+        | (queued != w)
+        | (visited != w)
+}
+
+// Whether a list of a call with m links, or a buffer for their rows, has another length than stated.
+pub fn unlike_links(
+    n: u32,
+    m: usize,
+    to: usize,
+    weight: usize,
+    starts: usize,
+    columns: usize,
+    weights: usize,
+) -> bool
+    ensures { λ r. ⌜ r ≡ unlike false ((to, m) ∷ (weight, m) ∷ (starts, n + 1) ∷ (columns, m) ∷ (weights, m) ∷ []) ⌝ }
+{
+    (to != m) | (weight != m) | (starts != n as usize + 1) | (columns != m) | (weights != m)
+}
+
+// Whether a list of a call with rows of m entries has another length than stated.
+pub fn unlike_rows(n: u32, m: usize, starts: usize, weights: usize) -> bool
+    ensures { λ r. ⌜ r ≡ unlike false ((starts, n + 1) ∷ (weights, m) ∷ []) ⌝ }
+{
+    (starts != n as usize + 1) | (weights != m)
+}
+
+// The answer of a solve that is refused.
+pub fn refused(refusal: u32) -> Solved
+    ensures { λ r. ⌜ r ≡ answer refusal 0 0 +0 ⌝ }
+{
+    Solved {
+        refusal,
+        push_count: 0,
+        nodes_visited: 0,
+        residual_norm: 0.0,
+    }
+}
+
+// The answer of a solve that is done, with the norm of its residual.
+pub fn done(counts: Counts, residual: &[f64]) -> Solved
+    ensures { λ r. ⌜ Measured counts (now (residual .entry)) r ⌝ }
+{
+    Solved {
+        refusal: 0,
+        push_count: counts.pushes,
+        nodes_visited: counts.visited,
+        residual_norm: norm::compute_residual_norm(residual),
+    }
+}
+
+// The score of v, +0 where it is no node.
+pub fn score_at(estimate: &[f64], v: u32) -> f64
+    ensures { λ r. ⌜ r ≡ getD (now (estimate .entry)) v +0 ⌝ }
+{
+    let at = v as usize;
+    if at < estimate.len() {
+        estimate[at]
+    } else {
+        0.0
+    }
+}
+
+// A whole solve, as `solver::solve` has it, that counts the visited nodes and leaves the workspace of the queue and the
+// marks cleared.
+pub fn solve_settled<'a>(
+    settings: Settings,
+    backward: bool,
+    watch: Watch,
+    sources: &[u32],
+    starts: &[u32],
+    columns: &'a [u32],
+    reverse_columns: &'a [u32],
+    weights: &'a [f64],
+    reverse_weights: &'a [f64],
+    degrees: &[f64],
+    outs: &[f64],
+    estimate: &mut [f64],
+    residual: &mut [f64],
+    priorities: &mut [f64],
+    nodes: &mut [u32],
+    queued: &mut [u64],
+    visited: &mut [u64],
+) -> Counts
+    requires { ⌜ Rows (length (now degrees)) backward (now starts) (now columns) (now «reverse_columns») (now weights) (now «reverse_weights») (now degrees) (now outs)
+        × Fits (length (now degrees)) (now sources) (solveLent (now estimate) (now residual) (now degrees) (now priorities) (now nodes) (now queued) (now visited)) ⌝ }
+    ensures { λ r. ⌜ Settled (Stands (length (now (degrees .entry))) backward (now (starts .entry)) (now (columns .entry)) (now («reverse_columns» .entry))
+        (now (weights .entry)) (now («reverse_weights» .entry)) (now (outs .entry)))
+        (λ way. Rules.solve way settings (watchIn watch) (length (now (degrees .entry))) (now (sources .entry)))
+        (length (now (degrees .entry))) r (now (estimate .exit)) (now (residual .exit)) (now (priorities .exit)) (now (nodes .exit)) (now (queued .exit)) (now (visited .exit)) ⌝ }
+{
+    let p = solver::solve(
+        settings,
+        backward,
+        watch,
+        sources,
+        starts,
+        columns,
+        reverse_columns,
+        weights,
+        reverse_weights,
+        degrees,
+        outs,
+        estimate,
+        residual,
+        priorities,
+        nodes,
+        queued,
+        visited,
+    );
+    let ones = marks::count(visited);
+    numbers::clear_floats(priorities);
+    numbers::clear(nodes);
+    marks::clear(queued);
+    marks::clear(visited);
+    Counts {
+        pushes: p.pushes,
+        visited: ones as u64,
+    }
+}

@@ -1,0 +1,3 @@
+-- The laws that the proofs of the forward solver share.
+pub mod Solving
+pub mod Asked

@@ -1,0 +1,2 @@
+-- The definitions that the forward solver's contracts cite.
+pub mod Outcomes

@@ -1,0 +1,45 @@
+-- The one outcome of each public call of the forward solver, whether it is given a list of links or rows: by its first number, and by the state that the
+-- rules' solve ends in. Assumes nothing.
+use Prim.Native.Nat.{ℕ}
+use mathlib.Core.List.{List, [], _∷_}
+use lib.ListN.{length}
+use lib.Ieee.{Float}
+use Rattle.refusals.specs.Refusals.{_or_, sizes, alphas, settings, precision}
+use Rattle.refusals.specs.Calls.{Left, left, call}
+use Rattle.refusals.specs.declared.Settings.{Settings}
+use Rattle.rules.specs.Ways.{forward}
+use Rattle.rules.specs.Rules.{unwatched, watched}
+use Rattle.rules.specs.Answers.{extrapolated}
+use Rattle.calls.specs.declared.Solved.{Solved}
+use Rattle.calls.specs.declared.Scored.{Scored}
+use Rattle.calls.specs.Outcomes.{Given, ends, Solves, queried}
+
+module _ {B : Type 0} (g : Given B) where
+  -- solve_single_source: a list of one source
+  abbrev pub solveSingleSource : ℕ → Settings → Left Solved B → Type 0
+  solveSingleSource source s = Solves (g .tests 0 or settings s) g (ends forward g s unwatched (source ∷ []))
+
+  -- solve_multi_source
+  abbrev pub solveMultiSource : List ℕ → Settings → Left Solved B → Type 0
+  solveMultiSource sources s = Solves (g .tests (length sources) or settings s) g (ends forward g s unwatched sources)
+
+  -- solve_with_target: the target is watched
+  abbrev pub solveWithTarget : ℕ → ℕ → Float → Settings → Left Solved B → Type 0
+  solveWithTarget source target p s = Solves (g .tests 0 or settings s or precision p) g (ends forward g s (watched target p) (source ∷ []))
+
+  -- query_single_entry: the score of the target
+  abbrev pub querySingleEntry : ℕ → ℕ → Settings → Left Scored B
+  querySingleEntry source target s = queried (g .tests 0 or settings s) g (ends forward g s unwatched (source ∷ [])) target
+
+-- ---- extrapolated_solution
+
+-- its first number: the first vector's length is the node count
+unfoldable pub extrapolatedRefusal : List Float → List Float → Float → List Float → ℕ
+extrapolatedRefusal estimate residual alpha b =
+    let n = length estimate in
+    sizes n 0 0 ((length residual, n) ∷ (length b, n) ∷ []) or alphas alpha
+
+-- its outcome
+unfoldable pub extrapolating : List Float → List Float → Float → List Float → Left ℕ (List Float)
+extrapolating estimate residual alpha b =
+    call (extrapolatedRefusal estimate residual alpha b) (λ k. k) b (left 0 (extrapolated alpha (length estimate) estimate residual))

@@ -1,0 +1,265 @@
+// The forward solver's public calls, of rows. Each tests its own input, refuses it with the first number that applies and
+// leaves every buffer as it was, or solves, writes both vectors in full and leaves the workspace all zero.
+ghost use mathlib.Core.Path.{_≡_};
+ghost use Rattle.refusals.specs.Calls.{left};
+ghost use Rattle.calls.specs.Lent.{solveLent};
+ghost use Rattle.calls.specs.Outcomes.{givenRows};
+ghost use Rattle.forward_push.specs.Outcomes.{solveSingleSource, solveMultiSource, solveWithTarget, querySingleEntry};
+use calls::Scored;
+use calls::Solved;
+use refusals::Settings;
+use solver::Watch;
+
+// A forward solve from one source, of rows.
+#[no_mangle]
+pub extern "C" fn solve_single_source_rows<'a>(
+    n: u32,
+    starts: &[u32],
+    columns: &'a [u32],
+    weights: &'a [f64],
+    source: u32,
+    settings: Settings,
+    estimate: &mut [f64],
+    residual: &mut [f64],
+    degrees: &mut [f64],
+    priorities: &mut [f64],
+    nodes: &mut [u32],
+    queued: &mut [u64],
+    visited: &mut [u64],
+) -> Solved
+    ensures { λ r. ⌜ solveSingleSource (givenRows n (now (starts .entry)) (now (columns .entry)) (now (weights .entry))
+        (solveLent (now (estimate .entry)) (now (residual .entry)) (now (degrees .entry)) (now (priorities .entry)) (now (nodes .entry)) (now (queued .entry)) (now (visited .entry))))
+        source settings (left r (solveLent (now (estimate .exit)) (now (residual .exit)) (now (degrees .exit)) (now (priorities .exit)) (now (nodes .exit)) (now (queued .exit)) (now (visited .exit)))) ⌝ }
+{
+    let tests = forward_push::refuse_rows(
+        n,
+        0,
+        starts,
+        columns,
+        weights,
+        estimate.len(),
+        residual.len(),
+        degrees.len(),
+        priorities.len(),
+        nodes.len(),
+        queued.len(),
+        visited.len(),
+    );
+    let refusal = refusals::or(tests, refusals::refuse_settings(settings));
+    if refusal != 0 {
+        return calls::refused(refusal);
+    }
+    let one = [source];
+    let counts = forward_push::solve_rows(
+        n,
+        starts,
+        columns,
+        weights,
+        &one,
+        Watch::Nobody,
+        settings,
+        estimate,
+        residual,
+        degrees,
+        priorities,
+        nodes,
+        queued,
+        visited,
+    );
+    calls::done(counts, residual)
+}
+
+// A forward solve from many sources, of rows.
+#[no_mangle]
+pub extern "C" fn solve_multi_source_rows<'a>(
+    n: u32,
+    starts: &[u32],
+    columns: &'a [u32],
+    weights: &'a [f64],
+    sources: &[u32],
+    settings: Settings,
+    estimate: &mut [f64],
+    residual: &mut [f64],
+    degrees: &mut [f64],
+    priorities: &mut [f64],
+    nodes: &mut [u32],
+    queued: &mut [u64],
+    visited: &mut [u64],
+) -> Solved
+    ensures { λ r. ⌜ solveMultiSource (givenRows n (now (starts .entry)) (now (columns .entry)) (now (weights .entry))
+        (solveLent (now (estimate .entry)) (now (residual .entry)) (now (degrees .entry)) (now (priorities .entry)) (now (nodes .entry)) (now (queued .entry)) (now (visited .entry))))
+        (now (sources .entry)) settings (left r (solveLent (now (estimate .exit)) (now (residual .exit)) (now (degrees .exit)) (now (priorities .exit)) (now (nodes .exit)) (now (queued .exit)) (now (visited .exit)))) ⌝ }
+{
+    let tests = forward_push::refuse_rows(
+        n,
+        sources.len(),
+        starts,
+        columns,
+        weights,
+        estimate.len(),
+        residual.len(),
+        degrees.len(),
+        priorities.len(),
+        nodes.len(),
+        queued.len(),
+        visited.len(),
+    );
+    let refusal = refusals::or(tests, refusals::refuse_settings(settings));
+    if refusal != 0 {
+        return calls::refused(refusal);
+    }
+    let counts = forward_push::solve_rows(
+        n,
+        starts,
+        columns,
+        weights,
+        sources,
+        Watch::Nobody,
+        settings,
+        estimate,
+        residual,
+        degrees,
+        priorities,
+        nodes,
+        queued,
+        visited,
+    );
+    calls::done(counts, residual)
+}
+
+// A forward solve from one source that stops early, where the estimate of the target is precise enough, of rows.
+#[no_mangle]
+pub extern "C" fn solve_with_target_rows<'a>(
+    n: u32,
+    starts: &[u32],
+    columns: &'a [u32],
+    weights: &'a [f64],
+    source: u32,
+    target: u32,
+    target_precision: f64,
+    settings: Settings,
+    estimate: &mut [f64],
+    residual: &mut [f64],
+    degrees: &mut [f64],
+    priorities: &mut [f64],
+    nodes: &mut [u32],
+    queued: &mut [u64],
+    visited: &mut [u64],
+) -> Solved
+    ensures { λ r. ⌜ solveWithTarget (givenRows n (now (starts .entry)) (now (columns .entry)) (now (weights .entry))
+        (solveLent (now (estimate .entry)) (now (residual .entry)) (now (degrees .entry)) (now (priorities .entry)) (now (nodes .entry)) (now (queued .entry)) (now (visited .entry))))
+        source target «target_precision» settings (left r (solveLent (now (estimate .exit)) (now (residual .exit)) (now (degrees .exit)) (now (priorities .exit)) (now (nodes .exit)) (now (queued .exit)) (now (visited .exit)))) ⌝ }
+{
+    let tests = forward_push::refuse_rows(
+        n,
+        0,
+        starts,
+        columns,
+        weights,
+        estimate.len(),
+        residual.len(),
+        degrees.len(),
+        priorities.len(),
+        nodes.len(),
+        queued.len(),
+        visited.len(),
+    );
+    let refusal = refusals::or(
+        tests,
+        refusals::or(
+            refusals::refuse_settings(settings),
+            refusals::refuse_precision(target_precision),
+        ),
+    );
+    if refusal != 0 {
+        return calls::refused(refusal);
+    }
+    let one = [source];
+    let counts = forward_push::solve_rows(
+        n,
+        starts,
+        columns,
+        weights,
+        &one,
+        Watch::Node {
+            node: target,
+            precision: target_precision,
+        },
+        settings,
+        estimate,
+        residual,
+        degrees,
+        priorities,
+        nodes,
+        queued,
+        visited,
+    );
+    calls::done(counts, residual)
+}
+
+// The score of the target in a forward solve from one source, of rows.
+#[no_mangle]
+pub extern "C" fn query_single_entry_rows<'a>(
+    n: u32,
+    starts: &[u32],
+    columns: &'a [u32],
+    weights: &'a [f64],
+    source: u32,
+    target: u32,
+    settings: Settings,
+    estimate: &mut [f64],
+    residual: &mut [f64],
+    degrees: &mut [f64],
+    priorities: &mut [f64],
+    nodes: &mut [u32],
+    queued: &mut [u64],
+    visited: &mut [u64],
+) -> Scored
+    ensures { λ r. ⌜ left r (solveLent (now (estimate .exit)) (now (residual .exit)) (now (degrees .exit)) (now (priorities .exit)) (now (nodes .exit)) (now (queued .exit)) (now (visited .exit)))
+        ≡ querySingleEntry (givenRows n (now (starts .entry)) (now (columns .entry)) (now (weights .entry))
+        (solveLent (now (estimate .entry)) (now (residual .entry)) (now (degrees .entry)) (now (priorities .entry)) (now (nodes .entry)) (now (queued .entry)) (now (visited .entry))))
+        source target settings ⌝ }
+{
+    let tests = forward_push::refuse_rows(
+        n,
+        0,
+        starts,
+        columns,
+        weights,
+        estimate.len(),
+        residual.len(),
+        degrees.len(),
+        priorities.len(),
+        nodes.len(),
+        queued.len(),
+        visited.len(),
+    );
+    let refusal = refusals::or(tests, refusals::refuse_settings(settings));
+    if refusal != 0 {
+        return Scored {
+            refusal,
+            score: 0.0,
+        };
+    }
+    let one = [source];
+    forward_push::solve_rows(
+        n,
+        starts,
+        columns,
+        weights,
+        &one,
+        Watch::Nobody,
+        settings,
+        estimate,
+        residual,
+        degrees,
+        priorities,
+        nodes,
+        queued,
+        visited,
+    );
+    Scored {
+        refusal: 0,
+        score: calls::score_at(estimate, target),
+    }
+}
