@@ -12,8 +12,7 @@ use Rattle.marks.proofs.Total.{how-many-same, how-many-none}
 use Rattle.rules.specs.Answers.{visitedCount}
 use Rattle.solver.specs.States.{marksIn, stateIn, NoneBeyond}
 use Rattle.solver.specs.declared.Progress.{Progress}
-use Rattle.calls.specs.declared.Counts.{Counts}
-use Rattle.calls.specs.Lent.{words}
+use Rattle.calls.specs.Lent.{words, tally}
 use Rattle.calls.specs.Promises.{countsOf}
 
 -- the words of few nodes are few
@@ -35,6 +34,6 @@ marks-inside n words h none =
 
 -- the counts of a state, from the ones of its words
 pub counts-are : (n : ℕ) (estimate residual : List Float) (p : Progress) (priorities : List Float) (nodes visited : List ℕ) {ones : ℕ} → n ≤ 64 * length visited → NoneBeyond n visited
-    → ones ≡ howMany (64 * length visited) (marked visited) → record { pushes = p .pushes; visited = ones } ≡ countsOf (stateIn n estimate residual p priorities nodes visited)
+    → ones ≡ howMany (64 * length visited) (marked visited) → tally 0 (p .pushes) ones ≡ countsOf (stateIn n estimate residual p priorities nodes visited)
 unfolding stateIn visitedCount
-counts-are n estimate residual p priorities nodes visited h none e = ap (λ (k : ℕ). record { pushes = p .pushes; visited = k }) (e ∙ marks-inside n visited h none)
+counts-are n estimate residual p priorities nodes visited h none e = ap (λ (k : ℕ). tally 0 (p .pushes) k) (e ∙ marks-inside n visited h none)

@@ -1,25 +1,28 @@
 -- What a public call of a solver leaves: refused or done, the one outcome that its promise names. Assumes nothing.
-use Prim.Native.Nat.{ℕ, _*_, _≤_}
-use mathlib.Core.List.{List, [], _∷_}
+use Prim.Native.Nat.{ℕ, zero, suc, _*_, _≤_}
+use mathlib.Core.Bool.{Bool}
+use mathlib.Core.List.{List}
 use mathlib.Core.Path.{_≡_, refl, sym, ap, _∙_}
 use native.Mathlib.Nat.{le-of-eq}
 use native.Mathlib.Omega.{arith}
-use lib.ListN.{length, replicate}
+use lib.ListN.{length, getD, replicate}
 use lib.Ieee.{Float}
 use Rattle.numbers.specs.Numbers.{+0}
 use Rattle.norm.specs.Norm.{Norm, addSquares}
 use Rattle.norm.proofs.Unique.{unique}
+use Rattle.refusals.specs.Refusals.{_or_, settings}
 use Rattle.refusals.specs.Calls.{Left, left, call}
+use Rattle.refusals.specs.declared.Settings.{Settings}
 use Rattle.refusals.proofs.Laws.{Alike, refused, accepted, agree, agree-by}
 use Rattle.rules.specs.Ways.{Way}
-use Rattle.rules.specs.Rules.{State}
+use Rattle.rules.specs.Rules.{State, Watch}
 use Rattle.rules.specs.Answers.{visitedCount, scoreAt}
-use Rattle.calls.specs.declared.Counts.{Counts}
+use Rattle.calls.specs.declared.Counted.{Counted}
 use Rattle.calls.specs.declared.Solved.{Solved}
 use Rattle.calls.specs.declared.Scored.{Scored}
-use Rattle.calls.specs.Lent.{words, answer, score, SolveLent, solveLent, solveLengths, solveDone}
-use Rattle.calls.specs.Outcomes.{Given, solvedWith, Solves, queried}
-use Rattle.calls.specs.Promises.{Fits, Measured, Settled, countsOf}
+use Rattle.calls.specs.Lent.{words, tally, answer, score, SolveLent, solveLent, solveLengths, solveDone}
+use Rattle.calls.specs.Outcomes.{Given, ends, counted, solvedWith, Solves, queried}
+use Rattle.calls.specs.Promises.{Fits, Measured, Queried, Settled, Settles, Checks, countsOf}
 
 -- as many words as n nodes need are enough
 words-enough : (n k : ℕ) → k ≡ words n → n ≤ 64 * k
@@ -47,7 +50,7 @@ fits n sources b few listed l =
     }
 
 -- what a settled solve leaves, with the degrees cleared
-pub settled-left : {meant : Way → Type 0} {f : Way → State} {n : ℕ} {r : Counts} {estimate residual degrees priorities : List Float} {nodes queued visited : List ℕ}
+pub settled-left : {meant : Way → Type 0} {f : Way → State} {n : ℕ} {r : Counted} {estimate residual degrees priorities : List Float} {nodes queued visited : List ℕ}
     → Settled meant f n r estimate residual priorities nodes queued visited → degrees ≡ replicate n +0 → (way : Way) → meant way
     → left r (solveLent estimate residual degrees priorities nodes queued visited) ≡ left (countsOf (f way)) (solveDone n (f way))
 unfolding solveDone
@@ -61,42 +64,70 @@ settled-left z d way m =
     let v = z .visited-zero in
     cc
 
+-- a test that does not apply behind others
+or-nothing : (a : ℕ) → a or 0 ≡ a
+unfolding _or_
+or-nothing zero = refl
+or-nothing (suc a) = refl
+
+module _ {B : Type 0} (backward : Bool) (g : Given B) (s : Settings) (watch : Watch) (sources : List ℕ) (listed further : ℕ) where
+  -- a call is refused: r, the number, is not 0
+  pub call-refused : {r : ℕ} → r ≡ g .tests listed or settings s or further → (r ≡ 0 → ⊥) → Checks backward g s watch sources listed further (left (tally r 0 0) (g .before))
+  unfolding counted
+  call-refused e h = record { leaves = refused (λ k. tally k 0 0) (g .before) _ _ e h }
+
+  -- a call is done: the number is 0, and the solve left what it should
+  pub call-done : {r : ℕ} {x : Left Counted B} → r ≡ g .tests listed or settings s or further → r ≡ 0 → Settles backward g s watch sources x
+      → Checks backward g s watch sources listed further x
+  unfolding counted
+  call-done e h d = record { leaves = accepted (λ k. tally k 0 0) (g .before) _ _ e h (d .leaves) }
+
+  -- the further tests have the number k
+  pub with-further : {k : ℕ} {x : Left Counted B} → further ≡ k → Checks backward g s watch sources listed further x
+      → x ≡ counted (g .tests listed or settings s or k) g (ends backward g s watch sources)
+  with-further e d = d .leaves ∙ ap (λ (k : ℕ). counted (g .tests listed or settings s or k) g (ends backward g s watch sources)) e
+
+  -- there are none
+  pub no-further : {x : Left Counted B} → further ≡ 0 → Checks backward g s watch sources listed further x → x ≡ counted (g .tests listed or settings s) g (ends backward g s watch sources)
+  no-further e d = with-further e d ∙ ap (λ (k : ℕ). counted (g .tests listed or k) g (ends backward g s watch sources)) (or-nothing (settings s))
+
+-- A solve's outcome is that before its norm was taken, with the norm of the residual that it left.
+pub solve-measured : {B : Type 0} (number : ℕ) (g : Given B) (s : State) {c : Counted} {b : B} {x : Solved} (residualOf : B → List Float) → residualOf (g .after s) ≡ s .residual
+    → left c b ≡ counted number g s → Measured c (residualOf b) x → Solves number g s (left x b)
+unfolding counted solvedWith call
+solve-measured zero g s {c} {b} {x} residualOf i d m =
+    let z = ap (λ (y : Left Counted _). y .answer .refusal) d in
+    record {
+      norm = x .«residual_norm»;
+      is-norm = λ _. rw (ap (λ (y : Left Counted _). residualOf (y .lent)) d ∙ i) at (m .is-norm z);
+      leaves =
+          ap (λ (y : Solved). left y b) (m .done z)
+          ∙ ap (λ (y : Left Counted _). left (answer 0 (y .answer .pushes) (y .answer .visited) (x .«residual_norm»)) (y .lent)) d;
+    }
+solve-measured (suc k) g s {c} {b} {x} residualOf i d m =
+    let z = ap (λ (y : Left Counted _). y .answer .refusal) d in
+    record {
+      norm = +0;
+      is-norm = λ h. absurd (omega arith);
+      leaves =
+          ap (λ (y : Solved). left y b) (m .refused (λ h. absurd (omega arith)))
+          ∙ ap (λ (y : Left Counted _). left (answer (y .answer .refusal) 0 0 +0) (y .lent)) d;
+    }
+
+-- A query's outcome is that of its solve, with the score that the solve left.
+pub query-answered : {B : Type 0} (number : ℕ) (g : Given B) (s : State) (v : ℕ) {c : Counted} {b : B} {x : Scored} (estimateOf : B → List Float) → estimateOf (g .after s) ≡ s .estimate
+    → left c b ≡ counted number g s → Queried (c .refusal) (estimateOf b) v x → left x b ≡ queried number g s v
+unfolding counted queried call scoreAt
+query-answered zero g s v {c} {b} estimateOf i d m =
+    let z = ap (λ (y : Left Counted _). y .answer .refusal) d in
+    ap (λ (y : Scored). left y b) (m .done z)
+    ∙ ap (λ (y : Left Counted _). left (score 0 (getD (estimateOf (y .lent)) v +0)) (y .lent)) d
+    ∙ ap (λ (xs : List Float). left (score 0 (getD xs v +0)) (g .after s)) i
+query-answered (suc k) g s v {c} {b} estimateOf i d m =
+    let z = ap (λ (y : Left Counted _). y .answer .refusal) d in
+    ap (λ (y : Scored). left y b) (m .refused (λ h. absurd (omega arith))) ∙ ap (λ (y : Left Counted _). left (score (y .answer .refusal) +0) (y .lent)) d
+
 module _ {B : Type 0} (number : ℕ) (g : Given B) (s : State) where
-  -- a solve is refused: r, the number, is not 0
-  pub solve-refused : {r : ℕ} {x : Solved} → r ≡ number → (r ≡ 0 → ⊥) → x ≡ answer r 0 0 +0 → Solves number g s (left x (g .before))
-  unfolding solvedWith
-  solve-refused e h a =
-      record {
-        norm = +0;
-        is-norm = λ z. absurd (h (e ∙ z));
-        leaves = ap (λ (y : Solved). left y (g .before)) a ∙ refused (λ k. answer k 0 0 +0) (g .before) _ number e h;
-      }
-
-  -- a solve is done: the number is 0, the solve left its counts and the buffers as they should be, and the answer is measured
-  pub solve-done : {r : ℕ} {counts : Counts} {b : B} {residual : List Float} {x : Solved} → r ≡ number → r ≡ 0 → left counts b ≡ left (countsOf s) (g .after s)
-      → residual ≡ s .residual → Measured counts residual x → Solves number g s (left x b)
-  unfolding solvedWith
-  solve-done {counts = counts} {b = b} {x = x} e h d i m =
-      record {
-        norm = x .«residual_norm»;
-        is-norm = λ _. rw i at (m .is-norm);
-        leaves =
-            accepted (λ k. answer k 0 0 +0) (g .before) _ number e h
-            (ap (λ (y : Solved). left y b) (m .answers) ∙ ap (λ (y : Left Counts B). left (answer 0 (y .answer .pushes) (y .answer .visited) (x .«residual_norm»)) (y .lent)) d);
-      }
-
-  -- a query is refused
-  pub query-refused : (v : ℕ) {r : ℕ} → r ≡ number → (r ≡ 0 → ⊥) → left (score r +0) (g .before) ≡ queried number g s v
-  unfolding queried
-  query-refused v e h = refused (λ k. score k +0) (g .before) _ number e h
-
-  -- a query is done
-  pub query-done : (v : ℕ) {r : ℕ} {counts : Counts} {b : B} {x : Float} → r ≡ number → r ≡ 0 → left counts b ≡ left (countsOf s) (g .after s) → x ≡ scoreAt s v
-      → left (score 0 x) b ≡ queried number g s v
-  unfolding queried
-  query-done v {x = x} e h d i =
-      accepted (λ k. score k +0) (g .before) _ number e h (ap (λ (y : Left Counts B). left (score 0 x) (y .lent)) d ∙ ap (λ (y : Float). left (score 0 y) (g .after s)) i)
-
   -- two outcomes that the promise of a solve allows are equal
   pub one-solve : (x y : Left Solved B) → Solves number g s x → Solves number g s y → x ≡ y
   unfolding solvedWith

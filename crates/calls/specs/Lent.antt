@@ -5,12 +5,17 @@ use lib.ListN.{length, replicate}
 use lib.Ieee.{Float}
 use Rattle.numbers.specs.Numbers.{+0}
 use Rattle.rules.specs.Rules.{State}
+use Rattle.calls.specs.declared.Counted.{Counted}
 use Rattle.calls.specs.declared.Solved.{Solved}
 use Rattle.calls.specs.declared.Scored.{Scored}
 
 -- n/64 rounded up
 unfoldable pub words : ℕ → ℕ
 words n = (n + 63) / 64
+
+-- the answer of a solve before its norm is taken, by its parts
+abbrev pub tally : ℕ → ℕ → ℕ → Counted
+tally refusal pushes visited = record { refusal = refusal; pushes = pushes; visited = visited }
 
 -- the answer of a solve, by its parts
 abbrev pub answer : ℕ → ℕ → ℕ → Float → Solved

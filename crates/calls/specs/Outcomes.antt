@@ -14,9 +14,10 @@ use Rattle.graph.specs.Rows.{Entry, linksOf, rowsOf, rowsIn}
 use Rattle.rules.specs.Ways.{over}
 use Rattle.rules.specs.Rules.{State, Watch, solve}
 use Rattle.rules.specs.Answers.{visitedCount, scoreAt}
+use Rattle.calls.specs.declared.Counted.{Counted}
 use Rattle.calls.specs.declared.Solved.{Solved}
 use Rattle.calls.specs.declared.Scored.{Scored}
-use Rattle.calls.specs.Lent.{answer, score, SolveLent, solveLengths, solveDone, LinksLent, linksDone}
+use Rattle.calls.specs.Lent.{tally, answer, score, SolveLent, solveLengths, solveDone, LinksLent, linksDone}
 
 -- ---- what a call is given
 
@@ -61,6 +62,10 @@ ends backward g settings watch sources = solve (over backward (g .nodes) (g .row
 -- ---- what it leaves, by its first number and the state that its solve ends in
 
 module _ {B : Type 0} (number : ℕ) (g : Given B) (s : State) where
+  -- a solve before its norm is taken
+  unfoldable pub counted : Left Counted B
+  counted = call number (λ k. tally k 0 0) (g .before) (left (tally 0 (s .pushes) (visitedCount s)) (g .after s))
+
   -- a solve with this norm of its residual
   unfoldable pub solvedWith : Float → Left Solved B
   solvedWith norm = call number (λ k. answer k 0 0 +0) (g .before) (left (answer 0 (s .pushes) (visitedCount s) norm) (g .after s))

@@ -3,20 +3,22 @@ use Prim.Native.Nat.{ℕ, _≤_}
 use mathlib.Core.Bool.{Bool}
 use mathlib.Core.List.{List}
 use mathlib.Core.Path.{_≡_}
-use lib.ListN.{length, replicate}
+use lib.ListN.{length, getD, replicate}
 use lib.Ieee.{Float}
 use Rattle.numbers.specs.Numbers.{+0}
 use Rattle.norm.specs.Norm.{Norm}
+use Rattle.refusals.specs.Refusals.{_or_, settings}
 use Rattle.refusals.specs.Calls.{Left, left}
 use Rattle.refusals.specs.declared.Settings.{Settings}
 use Rattle.rules.specs.Ways.{Way}
 use Rattle.rules.specs.Rules.{State, Watch}
 use Rattle.rules.specs.Answers.{visitedCount}
 use Rattle.solver.specs.Buffers.{Room}
-use Rattle.calls.specs.declared.Counts.{Counts}
+use Rattle.calls.specs.declared.Counted.{Counted}
 use Rattle.calls.specs.declared.Solved.{Solved}
-use Rattle.calls.specs.Lent.{words, answer, SolveLent}
-use Rattle.calls.specs.Outcomes.{Given, ends}
+use Rattle.calls.specs.declared.Scored.{Scored}
+use Rattle.calls.specs.Lent.{words, tally, answer, score, SolveLent}
+use Rattle.calls.specs.Outcomes.{Given, ends, counted}
 
 -- there is room for a solve among n nodes from these sources
 pub record Fits (n : ℕ) (sources : List ℕ) (b : SolveLent) : Type 0 where
@@ -26,17 +28,23 @@ pub record Fits (n : ℕ) (sources : List ℕ) (b : SolveLent) : Type 0 where
   pub queued-long : length (b .queued) ≡ words n
   pub visited-long : length (b .visited) ≡ words n
 
--- the counts of a state, by its parts
-abbrev pub countsOf : State → Counts
-countsOf s = record { pushes = s .pushes; visited = visitedCount s }
+-- the counts of a solve that is done and ends in a state
+abbrev pub countsOf : State → Counted
+countsOf s = tally 0 (s .pushes) (visitedCount s)
 
--- the counts, and the norm of the residual
-pub record Measured (counts : Counts) (residual : List Float) (r : Solved) : Type 0 where
-  pub is-norm : Norm residual (r .«residual_norm»)
-  pub answers : r ≡ answer 0 (counts .pushes) (counts .visited) (r .«residual_norm»)
+-- the answer of a solve: its number alone, or its counts and the norm of the residual
+pub record Measured (c : Counted) (residual : List Float) (r : Solved) : Type 0 where
+  pub refused : (c .refusal ≡ 0 → ⊥) → r ≡ answer (c .refusal) 0 0 +0
+  pub is-norm : c .refusal ≡ 0 → Norm residual (r .«residual_norm»)
+  pub done : c .refusal ≡ 0 → r ≡ answer 0 (c .pushes) (c .visited) (r .«residual_norm»)
+
+-- the answer of a query: its number alone, or the score of v
+pub record Queried (refusal : ℕ) (estimate : List Float) (v : ℕ) (r : Scored) : Type 0 where
+  pub refused : (refusal ≡ 0 → ⊥) → r ≡ score refusal +0
+  pub done : refusal ≡ 0 → r ≡ score 0 (getD estimate v +0)
 
 -- the counts and the two vectors are those of the state that f gives for every way that is meant, and the workspace is all zero
-pub record Settled (meant : Way → Type 0) (f : Way → State) (n : ℕ) (r : Counts) (estimate residual priorities : List Float) (nodes queued visited : List ℕ) : Type 0 where
+pub record Settled (meant : Way → Type 0) (f : Way → State) (n : ℕ) (r : Counted) (estimate residual priorities : List Float) (nodes queued visited : List ℕ) : Type 0 where
   pub counts : (way : Way) → meant way → r ≡ countsOf (f way)
   pub estimate-is : (way : Way) → meant way → estimate ≡ f way .estimate
   pub residual-is : (way : Way) → meant way → residual ≡ f way .residual
@@ -46,5 +54,9 @@ pub record Settled (meant : Way → Type 0) (f : Way → State) (n : ℕ) (r : C
   pub visited-zero : visited ≡ replicate (words n) 0
 
 -- a solve left the counts of the state that it ends in, and the lent buffers as they are after it
-abbrev pub Settles : {B : Type 0} → Bool → Given B → Settings → Watch → List ℕ → Left Counts B → Type 0
-Settles backward g settings watch sources x = x ≡ left (countsOf (ends backward g settings watch sources)) (g .after (ends backward g settings watch sources))
+pub record Settles {B : Type 0} (backward : Bool) (g : Given B) (s : Settings) (watch : Watch) (sources : List ℕ) (x : Left Counted B) : Type 0 where
+  pub leaves : x ≡ left (countsOf (ends backward g s watch sources)) (g .after (ends backward g s watch sources))
+
+-- a call was refused with its first number, `further` being that of the tests after those of the settings, or solved
+pub record Checks {B : Type 0} (backward : Bool) (g : Given B) (s : Settings) (watch : Watch) (sources : List ℕ) (listed further : ℕ) (x : Left Counted B) : Type 0 where
+  pub leaves : x ≡ counted (g .tests listed or settings s or further) g (ends backward g s watch sources)

@@ -11,13 +11,15 @@ ghost use Rattle.rules.specs.Rules as Rules;
 ghost use Rattle.solver.specs.States.{watchIn};
 ghost use Rattle.solver.specs.Buffers.{Rows};
 ghost use Rattle.solver.specs.Meant.{Stands};
-ghost use Rattle.calls.specs.Lent.{words, answer, solveLent};
-ghost use Rattle.calls.specs.Promises.{Fits, Measured, Settled};
+ghost use Rattle.calls.specs.Lent.{words, solveLent};
+ghost use Rattle.calls.specs.Promises.{Fits, Measured, Queried, Settled};
 use refusals::Settings;
 use solver::Watch;
 
-// How many pushes a solve made, and how many nodes it pushed.
-pub struct Counts {
+// What a solve answers before its norm is taken: how many pushes it made, and how many nodes it pushed. Number 0 is
+// done.
+pub struct Counted {
+    pub refusal: u32,
     pub pushes: u64,
     pub visited: u64,
 }
@@ -86,32 +88,28 @@ pub fn unlike_rows(n: u32, m: usize, starts: usize, weights: usize) -> bool
     (starts != n as usize + 1) | (weights != m)
 }
 
-// The answer of a solve that is refused.
-pub fn refused(refusal: u32) -> Solved
-    ensures { λ r. ⌜ r ≡ answer refusal 0 0 +0 ⌝ }
+// The answer of a solve: refused, or done with the norm of its residual.
+pub fn measured(c: Counted, residual: &[f64]) -> Solved
+    ensures { λ r. ⌜ Measured c (now (residual .entry)) r ⌝ }
 {
-    Solved {
-        refusal,
-        push_count: 0,
-        nodes_visited: 0,
-        residual_norm: 0.0,
+    if c.refusal != 0 {
+        return Solved {
+            refusal: c.refusal,
+            push_count: 0,
+            nodes_visited: 0,
+            residual_norm: 0.0,
+        };
     }
-}
-
-// The answer of a solve that is done, with the norm of its residual.
-pub fn done(counts: Counts, residual: &[f64]) -> Solved
-    ensures { λ r. ⌜ Measured counts (now (residual .entry)) r ⌝ }
-{
     Solved {
         refusal: 0,
-        push_count: counts.pushes,
-        nodes_visited: counts.visited,
+        push_count: c.pushes,
+        nodes_visited: c.visited,
         residual_norm: norm::compute_residual_norm(residual),
     }
 }
 
 // The score of v, +0 where it is no node.
-pub fn score_at(estimate: &[f64], v: u32) -> f64
+fn score_at(estimate: &[f64], v: u32) -> f64
     ensures { λ r. ⌜ r ≡ getD (now (estimate .entry)) v +0 ⌝ }
 {
     let at = v as usize;
@@ -119,6 +117,22 @@ pub fn score_at(estimate: &[f64], v: u32) -> f64
         estimate[at]
     } else {
         0.0
+    }
+}
+
+// The answer of a query: refused, or done with the score of v.
+pub fn answered(refusal: u32, estimate: &[f64], v: u32) -> Scored
+    ensures { λ r. ⌜ Queried refusal (now (estimate .entry)) v r ⌝ }
+{
+    if refusal != 0 {
+        return Scored {
+            refusal,
+            score: 0.0,
+        };
+    }
+    Scored {
+        refusal: 0,
+        score: score_at(estimate, v),
     }
 }
 
@@ -142,7 +156,7 @@ pub fn solve_settled<'a>(
     nodes: &mut [u32],
     queued: &mut [u64],
     visited: &mut [u64],
-) -> Counts
+) -> Counted
     requires { ⌜ Rows (length (now degrees)) backward (now starts) (now columns) (now «reverse_columns») (now weights) (now «reverse_weights») (now degrees) (now outs)
         × Fits (length (now degrees)) (now sources) (solveLent (now estimate) (now residual) (now degrees) (now priorities) (now nodes) (now queued) (now visited)) ⌝ }
     ensures { λ r. ⌜ Settled (Stands (length (now (degrees .entry))) backward (now (starts .entry)) (now (columns .entry)) (now («reverse_columns» .entry))
@@ -174,7 +188,8 @@ pub fn solve_settled<'a>(
     numbers::clear(nodes);
     marks::clear(queued);
     marks::clear(visited);
-    Counts {
+    Counted {
+        refusal: 0,
         pushes: p.pushes,
         visited: ones as u64,
     }

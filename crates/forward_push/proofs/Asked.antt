@@ -30,14 +30,16 @@ module _ {r : ℕ} (listed rest : ℕ) {sources : List ℕ} (few : listed ≤ 65
   links-asked n from to weight b e h =
       let z = sized _ _ _ _ (or-zero _ _ (or-zero _ _ (sym e ∙ h) .0) .0) in
       let l = z .long in
-      let f = fits n sources (b .solve) (z .nodes) (few (z .listed)) (l .1 .1 .1 .1 .1) in
-      (record {
-        nodes = z .nodes;
-        links = z .links;
-        to-long = l .0;
-        weight-long = l .1 .0;
-        starts-long = l .1 .1 .0;
-        columns-long = l .1 .1 .1 .0;
-        weights-long = l .1 .1 .1 .1 .0;
-        positions-long = f .room .paired;
-      }, f)
+      let f = fits n sources (b .solve) (z .nodes) (few (z .listed)) (l .1 .1 .1 .1 .1) in (
+        record {
+          nodes = z .nodes;
+          links = z .links;
+          to-long = l .0;
+          weight-long = l .1 .0;
+          starts-long = l .1 .1 .0;
+          columns-long = l .1 .1 .1 .0;
+          weights-long = l .1 .1 .1 .1 .0;
+          positions-long = f .room .paired;
+        },
+        f,
+      )

@@ -18,7 +18,7 @@ use Rattle.rules.specs.Rules.{Watch, solve}
 use Rattle.solver.specs.Buffers.{Rows}
 use Rattle.solver.specs.Meant.{Stands}
 use Rattle.solver.proofs.Graphs.{stands-over}
-use Rattle.calls.specs.declared.Counts.{Counts}
+use Rattle.calls.specs.declared.Counted.{Counted}
 use Rattle.calls.specs.Lent.{SolveLent, solveLent, solveDone, linksLent, linksDone}
 use Rattle.calls.specs.Promises.{Fits, Settled, countsOf}
 use Rattle.calls.proofs.Degrees.{degree-at}
@@ -46,7 +46,7 @@ module _ {n k : ℕ} {starts columns : List ℕ} {weights degrees : List Float} 
   fits-still f = rw sums-long (record { listed = f .listed; room = f .room; degrees-long = sums-long; queued-long = f .queued-long; visited-long = f .visited-long })
 
   -- what it leaves, with the degrees cleared
-  pub rows-settled : (settings : Settings) (watch : Watch) (sources : List ℕ) {r : Counts} {estimate residual cleared priorities : List Float} {nodes queued visited : List ℕ}
+  pub rows-settled : (settings : Settings) (watch : Watch) (sources : List ℕ) {r : Counted} {estimate residual cleared priorities : List Float} {nodes queued visited : List ℕ}
       → Settled (Stands (length degrees) false starts columns columns weights weights degrees) (λ way. solve way settings watch (length degrees) sources) (length degrees)
       r estimate residual priorities nodes queued visited
       → cleared ≡ replicate (length degrees) +0
@@ -82,7 +82,7 @@ fits-nodes f e =
     }
 
 -- what a solve of rows leaves, where the rows were made of links and are cleared after it
-pub links-settled : {n m k : ℕ} {rows : List (List Entry)} {starts columns positions starts′ columns′ : List ℕ} {weights weights′ : List Float} {r : Counts} {b : SolveLent}
+pub links-settled : {n m k : ℕ} {rows : List (List Entry)} {starts columns positions starts′ columns′ : List ℕ} {weights weights′ : List Float} {r : Counted} {b : SolveLent}
     (settings : Settings) (watch : Watch) (sources : List ℕ) → Compressed k n rows m starts columns weights positions
     → (let s = solve (over forward n (rowsIn n starts columns weights)) settings watch n sources in left r b ≡ left (countsOf s) (solveDone n s))
     → starts′ ≡ replicate (n + 1) 0 → columns′ ≡ replicate m 0 → weights′ ≡ replicate m +0
@@ -90,4 +90,4 @@ pub links-settled : {n m k : ℕ} {rows : List (List Entry)} {starts columns pos
     left r (linksLent starts′ columns′ weights′ b) ≡ left (countsOf s) (linksDone n m s)
 unfolding linksDone
 links-settled {n} {m} {k} {rows} {starts} {columns} {positions} {starts′} {columns′} {weights} {weights′} settings watch sources h d s c w =
-    ap (λ (x : Left Counts SolveLent). left (x .answer) (linksLent starts′ columns′ weights′ (x .lent))) (rw (held-rows (h .held)) at d) ∙ rw (s, c, w)
+    ap (λ (x : Left Counted SolveLent). left (x .answer) (linksLent starts′ columns′ weights′ (x .lent))) (rw (held-rows (h .held)) at d) ∙ rw (s, c, w)

@@ -1,8 +1,8 @@
 // Forward solves over lent buffers, of rows and of a list of links, that leave the workspace cleared. What
-// they ask, the public calls test, by the two functions here.
+// they ask, is tested here for the public calls.
 ghost use mathlib.Core.Path.{_≡_};
 ghost use mathlib.Core.List.{[], _∷_};
-ghost use Prim.Native.Nat.{_+_};
+ghost use Prim.Native.Nat.{_+_, _≤_};
 ghost use lib.ListN.{length};
 ghost use Rattle.refusals.specs.Refusals.{linkTests, rowTests};
 ghost use Rattle.refusals.specs.Calls.{left};
@@ -12,14 +12,14 @@ ghost use Rattle.rules.specs.Answers.{extrapolated};
 ghost use Rattle.solver.specs.States.{watchIn};
 ghost use Rattle.calls.specs.Lent.{words, solveLent, linksLent};
 ghost use Rattle.calls.specs.Outcomes.{givenRows, givenLinks};
-ghost use Rattle.calls.specs.Promises.{Fits, Settles};
+ghost use Rattle.calls.specs.Promises.{Fits, Settles, Checks};
 ghost use Rattle.forward_push.specs.Outcomes.{extrapolating};
-use calls::Counts;
+use calls::Counted;
 use refusals::Settings;
 use solver::Watch;
 
 // Tests 1 to 5 of a call with a list of m links, by the lengths of what is lent.
-pub fn refuse_links(
+fn refuse_links(
     n: u32,
     listed: usize,
     m: usize,
@@ -55,7 +55,7 @@ pub fn refuse_links(
 }
 
 // Tests 1 to 5 of a call with rows, likewise.
-pub fn refuse_rows(
+fn refuse_rows(
     n: u32,
     listed: usize,
     starts: &[u32],
@@ -89,7 +89,7 @@ pub fn refuse_rows(
 }
 
 // A forward solve of rows.
-pub fn solve_rows<'a>(
+fn solve_rows<'a>(
     n: u32,
     starts: &[u32],
     columns: &'a [u32],
@@ -104,7 +104,7 @@ pub fn solve_rows<'a>(
     nodes: &mut [u32],
     queued: &mut [u64],
     visited: &mut [u64],
-) -> Counts
+) -> Counted
     requires { ⌜ Rowed n (now starts) (now columns) (now weights)
         × Fits n (now sources) (solveLent (now estimate) (now residual) (now degrees) (now priorities) (now nodes) (now queued) (now visited)) ⌝ }
     ensures { λ r. ⌜ Settles forward (givenRows n (now (starts .entry)) (now (columns .entry)) (now (weights .entry))
@@ -137,7 +137,7 @@ pub fn solve_rows<'a>(
 }
 
 // A forward solve of a list of links. The queue's nodes serve as positions while the rows are made.
-pub fn solve_links(
+fn solve_links(
     n: u32,
     from: &[u32],
     to: &[u32],
@@ -155,7 +155,7 @@ pub fn solve_links(
     nodes: &mut [u32],
     queued: &mut [u64],
     visited: &mut [u64],
-) -> Counts
+) -> Counted
     requires { ⌜ Buffers n (now from) (now to) (now weight) (now starts) (now columns) (now weights) (now nodes)
         × Fits n (now sources) (solveLent (now estimate) (now residual) (now degrees) (now priorities) (now nodes) (now queued) (now visited)) ⌝ }
     ensures { λ r. ⌜ Settles forward (givenLinks n (now (from .entry)) (now (to .entry)) (now (weight .entry)) (linksLent (now (starts .entry)) (now (columns .entry)) (now (weights .entry))
@@ -184,6 +184,149 @@ pub fn solve_links(
     numbers::clear(columns);
     numbers::clear_floats(weights);
     counts
+}
+
+// A forward call with rows: refused with the first number that applies, or solved. `listed` is how many sources the
+// call lists, and `further` the number of the tests after those of the settings.
+pub fn checked_rows<'a>(
+    n: u32,
+    starts: &[u32],
+    columns: &'a [u32],
+    weights: &'a [f64],
+    sources: &[u32],
+    listed: usize,
+    watch: Watch,
+    settings: Settings,
+    further: u32,
+    estimate: &mut [f64],
+    residual: &mut [f64],
+    degrees: &mut [f64],
+    priorities: &mut [f64],
+    nodes: &mut [u32],
+    queued: &mut [u64],
+    visited: &mut [u64],
+) -> Counted
+    requires { ⌜ (listed ≤ 65536 → length (now sources) ≤ 65536) ⌝ }
+    ensures { λ r. ⌜ Checks forward (givenRows n (now (starts .entry)) (now (columns .entry)) (now (weights .entry))
+        (solveLent (now (estimate .entry)) (now (residual .entry)) (now (degrees .entry)) (now (priorities .entry)) (now (nodes .entry)) (now (queued .entry)) (now (visited .entry))))
+        settings (watchIn watch) (now (sources .entry)) listed further
+        (left r (solveLent (now (estimate .exit)) (now (residual .exit)) (now (degrees .exit)) (now (priorities .exit)) (now (nodes .exit)) (now (queued .exit)) (now (visited .exit)))) ⌝ }
+{
+    let tests = refuse_rows(
+        n,
+        listed,
+        starts,
+        columns,
+        weights,
+        estimate.len(),
+        residual.len(),
+        degrees.len(),
+        priorities.len(),
+        nodes.len(),
+        queued.len(),
+        visited.len(),
+    );
+    let later = refusals::or(refusals::refuse_settings(settings), further);
+    let refusal = refusals::or(tests, later);
+    if refusal != 0 {
+        return Counted {
+            refusal,
+            pushes: 0,
+            visited: 0,
+        };
+    }
+    solve_rows(
+        n,
+        starts,
+        columns,
+        weights,
+        sources,
+        watch,
+        settings,
+        estimate,
+        residual,
+        degrees,
+        priorities,
+        nodes,
+        queued,
+        visited,
+    )
+}
+
+// A forward call with a list of links, likewise.
+pub fn checked_links(
+    n: u32,
+    from: &[u32],
+    to: &[u32],
+    weight: &[f64],
+    sources: &[u32],
+    listed: usize,
+    watch: Watch,
+    settings: Settings,
+    further: u32,
+    estimate: &mut [f64],
+    residual: &mut [f64],
+    starts: &mut [u32],
+    columns: &mut [u32],
+    weights: &mut [f64],
+    degrees: &mut [f64],
+    priorities: &mut [f64],
+    nodes: &mut [u32],
+    queued: &mut [u64],
+    visited: &mut [u64],
+) -> Counted
+    requires { ⌜ (listed ≤ 65536 → length (now sources) ≤ 65536) ⌝ }
+    ensures { λ r. ⌜ Checks forward (givenLinks n (now (from .entry)) (now (to .entry)) (now (weight .entry)) (linksLent (now (starts .entry)) (now (columns .entry)) (now (weights .entry))
+        (solveLent (now (estimate .entry)) (now (residual .entry)) (now (degrees .entry)) (now (priorities .entry)) (now (nodes .entry)) (now (queued .entry)) (now (visited .entry)))))
+        settings (watchIn watch) (now (sources .entry)) listed further
+        (left r (linksLent (now (starts .exit)) (now (columns .exit)) (now (weights .exit))
+        (solveLent (now (estimate .exit)) (now (residual .exit)) (now (degrees .exit)) (now (priorities .exit)) (now (nodes .exit)) (now (queued .exit)) (now (visited .exit))))) ⌝ }
+{
+    let tests = refuse_links(
+        n,
+        listed,
+        from.len(),
+        to.len(),
+        weight,
+        starts.len(),
+        columns.len(),
+        weights.len(),
+        estimate.len(),
+        residual.len(),
+        degrees.len(),
+        priorities.len(),
+        nodes.len(),
+        queued.len(),
+        visited.len(),
+    );
+    let later = refusals::or(refusals::refuse_settings(settings), further);
+    let refusal = refusals::or(tests, later);
+    if refusal != 0 {
+        return Counted {
+            refusal,
+            pushes: 0,
+            visited: 0,
+        };
+    }
+    solve_links(
+        n,
+        from,
+        to,
+        weight,
+        sources,
+        watch,
+        settings,
+        estimate,
+        residual,
+        starts,
+        columns,
+        weights,
+        degrees,
+        priorities,
+        nodes,
+        queued,
+        visited,
+    )
 }
 
 // The estimate and alpha times the residual, node by node.

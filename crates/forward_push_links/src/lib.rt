@@ -35,36 +35,17 @@ pub extern "C" fn solve_single_source_links(
         source settings (left r (linksLent (now (starts .exit)) (now (columns .exit)) (now (weights .exit))
         (solveLent (now (estimate .exit)) (now (residual .exit)) (now (degrees .exit)) (now (priorities .exit)) (now (nodes .exit)) (now (queued .exit)) (now (visited .exit))))) ⌝ }
 {
-    let tests = forward_push::refuse_links(
-        n,
-        0,
-        from.len(),
-        to.len(),
-        weight,
-        starts.len(),
-        columns.len(),
-        weights.len(),
-        estimate.len(),
-        residual.len(),
-        degrees.len(),
-        priorities.len(),
-        nodes.len(),
-        queued.len(),
-        visited.len(),
-    );
-    let refusal = refusals::or(tests, refusals::refuse_settings(settings));
-    if refusal != 0 {
-        return calls::refused(refusal);
-    }
     let one = [source];
-    let counts = forward_push::solve_links(
+    let c = forward_push::checked_links(
         n,
         from,
         to,
         weight,
         &one,
+        0,
         Watch::Nobody,
         settings,
+        0,
         estimate,
         residual,
         starts,
@@ -76,7 +57,7 @@ pub extern "C" fn solve_single_source_links(
         queued,
         visited,
     );
-    calls::done(counts, residual)
+    calls::measured(c, residual)
 }
 
 // A forward solve from many sources, of a list of links.
@@ -104,35 +85,16 @@ pub extern "C" fn solve_multi_source_links(
         (now (sources .entry)) settings (left r (linksLent (now (starts .exit)) (now (columns .exit)) (now (weights .exit))
         (solveLent (now (estimate .exit)) (now (residual .exit)) (now (degrees .exit)) (now (priorities .exit)) (now (nodes .exit)) (now (queued .exit)) (now (visited .exit))))) ⌝ }
 {
-    let tests = forward_push::refuse_links(
-        n,
-        sources.len(),
-        from.len(),
-        to.len(),
-        weight,
-        starts.len(),
-        columns.len(),
-        weights.len(),
-        estimate.len(),
-        residual.len(),
-        degrees.len(),
-        priorities.len(),
-        nodes.len(),
-        queued.len(),
-        visited.len(),
-    );
-    let refusal = refusals::or(tests, refusals::refuse_settings(settings));
-    if refusal != 0 {
-        return calls::refused(refusal);
-    }
-    let counts = forward_push::solve_links(
+    let c = forward_push::checked_links(
         n,
         from,
         to,
         weight,
         sources,
+        sources.len(),
         Watch::Nobody,
         settings,
+        0,
         estimate,
         residual,
         starts,
@@ -144,7 +106,7 @@ pub extern "C" fn solve_multi_source_links(
         queued,
         visited,
     );
-    calls::done(counts, residual)
+    calls::measured(c, residual)
 }
 
 // A forward solve from one source that stops early, where the estimate of the target is precise enough, of a list of links.
@@ -174,45 +136,21 @@ pub extern "C" fn solve_with_target_links(
         source target «target_precision» settings (left r (linksLent (now (starts .exit)) (now (columns .exit)) (now (weights .exit))
         (solveLent (now (estimate .exit)) (now (residual .exit)) (now (degrees .exit)) (now (priorities .exit)) (now (nodes .exit)) (now (queued .exit)) (now (visited .exit))))) ⌝ }
 {
-    let tests = forward_push::refuse_links(
-        n,
-        0,
-        from.len(),
-        to.len(),
-        weight,
-        starts.len(),
-        columns.len(),
-        weights.len(),
-        estimate.len(),
-        residual.len(),
-        degrees.len(),
-        priorities.len(),
-        nodes.len(),
-        queued.len(),
-        visited.len(),
-    );
-    let refusal = refusals::or(
-        tests,
-        refusals::or(
-            refusals::refuse_settings(settings),
-            refusals::refuse_precision(target_precision),
-        ),
-    );
-    if refusal != 0 {
-        return calls::refused(refusal);
-    }
     let one = [source];
-    let counts = forward_push::solve_links(
+    let further = refusals::refuse_precision(target_precision);
+    let c = forward_push::checked_links(
         n,
         from,
         to,
         weight,
         &one,
+        0,
         Watch::Node {
             node: target,
             precision: target_precision,
         },
         settings,
+        further,
         estimate,
         residual,
         starts,
@@ -224,7 +162,7 @@ pub extern "C" fn solve_with_target_links(
         queued,
         visited,
     );
-    calls::done(counts, residual)
+    calls::measured(c, residual)
 }
 
 // The score of the target in a forward solve from one source, of a list of links.
@@ -254,39 +192,17 @@ pub extern "C" fn query_single_entry_links(
         (solveLent (now (estimate .entry)) (now (residual .entry)) (now (degrees .entry)) (now (priorities .entry)) (now (nodes .entry)) (now (queued .entry)) (now (visited .entry)))))
         source target settings ⌝ }
 {
-    let tests = forward_push::refuse_links(
-        n,
-        0,
-        from.len(),
-        to.len(),
-        weight,
-        starts.len(),
-        columns.len(),
-        weights.len(),
-        estimate.len(),
-        residual.len(),
-        degrees.len(),
-        priorities.len(),
-        nodes.len(),
-        queued.len(),
-        visited.len(),
-    );
-    let refusal = refusals::or(tests, refusals::refuse_settings(settings));
-    if refusal != 0 {
-        return Scored {
-            refusal,
-            score: 0.0,
-        };
-    }
     let one = [source];
-    forward_push::solve_links(
+    let c = forward_push::checked_links(
         n,
         from,
         to,
         weight,
         &one,
+        0,
         Watch::Nobody,
         settings,
+        0,
         estimate,
         residual,
         starts,
@@ -298,8 +214,5 @@ pub extern "C" fn query_single_entry_links(
         queued,
         visited,
     );
-    Scored {
-        refusal: 0,
-        score: calls::score_at(estimate, target),
-    }
+    calls::answered(c.refusal, estimate, target)
 }

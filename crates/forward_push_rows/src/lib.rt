@@ -31,33 +31,17 @@ pub extern "C" fn solve_single_source_rows<'a>(
         (solveLent (now (estimate .entry)) (now (residual .entry)) (now (degrees .entry)) (now (priorities .entry)) (now (nodes .entry)) (now (queued .entry)) (now (visited .entry))))
         source settings (left r (solveLent (now (estimate .exit)) (now (residual .exit)) (now (degrees .exit)) (now (priorities .exit)) (now (nodes .exit)) (now (queued .exit)) (now (visited .exit)))) ⌝ }
 {
-    let tests = forward_push::refuse_rows(
-        n,
-        0,
-        starts,
-        columns,
-        weights,
-        estimate.len(),
-        residual.len(),
-        degrees.len(),
-        priorities.len(),
-        nodes.len(),
-        queued.len(),
-        visited.len(),
-    );
-    let refusal = refusals::or(tests, refusals::refuse_settings(settings));
-    if refusal != 0 {
-        return calls::refused(refusal);
-    }
     let one = [source];
-    let counts = forward_push::solve_rows(
+    let c = forward_push::checked_rows(
         n,
         starts,
         columns,
         weights,
         &one,
+        0,
         Watch::Nobody,
         settings,
+        0,
         estimate,
         residual,
         degrees,
@@ -66,7 +50,7 @@ pub extern "C" fn solve_single_source_rows<'a>(
         queued,
         visited,
     );
-    calls::done(counts, residual)
+    calls::measured(c, residual)
 }
 
 // A forward solve from many sources, of rows.
@@ -90,32 +74,16 @@ pub extern "C" fn solve_multi_source_rows<'a>(
         (solveLent (now (estimate .entry)) (now (residual .entry)) (now (degrees .entry)) (now (priorities .entry)) (now (nodes .entry)) (now (queued .entry)) (now (visited .entry))))
         (now (sources .entry)) settings (left r (solveLent (now (estimate .exit)) (now (residual .exit)) (now (degrees .exit)) (now (priorities .exit)) (now (nodes .exit)) (now (queued .exit)) (now (visited .exit)))) ⌝ }
 {
-    let tests = forward_push::refuse_rows(
-        n,
-        sources.len(),
-        starts,
-        columns,
-        weights,
-        estimate.len(),
-        residual.len(),
-        degrees.len(),
-        priorities.len(),
-        nodes.len(),
-        queued.len(),
-        visited.len(),
-    );
-    let refusal = refusals::or(tests, refusals::refuse_settings(settings));
-    if refusal != 0 {
-        return calls::refused(refusal);
-    }
-    let counts = forward_push::solve_rows(
+    let c = forward_push::checked_rows(
         n,
         starts,
         columns,
         weights,
         sources,
+        sources.len(),
         Watch::Nobody,
         settings,
+        0,
         estimate,
         residual,
         degrees,
@@ -124,7 +92,7 @@ pub extern "C" fn solve_multi_source_rows<'a>(
         queued,
         visited,
     );
-    calls::done(counts, residual)
+    calls::measured(c, residual)
 }
 
 // A forward solve from one source that stops early, where the estimate of the target is precise enough, of rows.
@@ -150,42 +118,21 @@ pub extern "C" fn solve_with_target_rows<'a>(
         (solveLent (now (estimate .entry)) (now (residual .entry)) (now (degrees .entry)) (now (priorities .entry)) (now (nodes .entry)) (now (queued .entry)) (now (visited .entry))))
         source target «target_precision» settings (left r (solveLent (now (estimate .exit)) (now (residual .exit)) (now (degrees .exit)) (now (priorities .exit)) (now (nodes .exit)) (now (queued .exit)) (now (visited .exit)))) ⌝ }
 {
-    let tests = forward_push::refuse_rows(
-        n,
-        0,
-        starts,
-        columns,
-        weights,
-        estimate.len(),
-        residual.len(),
-        degrees.len(),
-        priorities.len(),
-        nodes.len(),
-        queued.len(),
-        visited.len(),
-    );
-    let refusal = refusals::or(
-        tests,
-        refusals::or(
-            refusals::refuse_settings(settings),
-            refusals::refuse_precision(target_precision),
-        ),
-    );
-    if refusal != 0 {
-        return calls::refused(refusal);
-    }
     let one = [source];
-    let counts = forward_push::solve_rows(
+    let further = refusals::refuse_precision(target_precision);
+    let c = forward_push::checked_rows(
         n,
         starts,
         columns,
         weights,
         &one,
+        0,
         Watch::Node {
             node: target,
             precision: target_precision,
         },
         settings,
+        further,
         estimate,
         residual,
         degrees,
@@ -194,7 +141,7 @@ pub extern "C" fn solve_with_target_rows<'a>(
         queued,
         visited,
     );
-    calls::done(counts, residual)
+    calls::measured(c, residual)
 }
 
 // The score of the target in a forward solve from one source, of rows.
@@ -220,36 +167,17 @@ pub extern "C" fn query_single_entry_rows<'a>(
         (solveLent (now (estimate .entry)) (now (residual .entry)) (now (degrees .entry)) (now (priorities .entry)) (now (nodes .entry)) (now (queued .entry)) (now (visited .entry))))
         source target settings ⌝ }
 {
-    let tests = forward_push::refuse_rows(
-        n,
-        0,
-        starts,
-        columns,
-        weights,
-        estimate.len(),
-        residual.len(),
-        degrees.len(),
-        priorities.len(),
-        nodes.len(),
-        queued.len(),
-        visited.len(),
-    );
-    let refusal = refusals::or(tests, refusals::refuse_settings(settings));
-    if refusal != 0 {
-        return Scored {
-            refusal,
-            score: 0.0,
-        };
-    }
     let one = [source];
-    forward_push::solve_rows(
+    let c = forward_push::checked_rows(
         n,
         starts,
         columns,
         weights,
         &one,
+        0,
         Watch::Nobody,
         settings,
+        0,
         estimate,
         residual,
         degrees,
@@ -258,8 +186,5 @@ pub extern "C" fn query_single_entry_rows<'a>(
         queued,
         visited,
     );
-    Scored {
-        refusal: 0,
-        score: calls::score_at(estimate, target),
-    }
+    calls::answered(c.refusal, estimate, target)
 }

@@ -63,10 +63,12 @@ returns c =
     let a = c .before .before .before .before .before .before .before .before .before .before .before .before .before .before .before .before .before .before .before .before .before .before .before .before .before .before .before .before .before .before .before .before .before .before .before .before .before .before .before .before .before .before .before .before .before .before .before .before .before .before .before .before .before .before .before .before .before .before .before .before .before .before .before .before .args in
     let p = c .before .before .before .before .before .before .before .before .before .before .before .before .before .before .before .before .before .before .before .before .before .before .before .before .before .before .before .before .before .before .before .before .before .before .before .before .before .before .before .before .before .before .before .before .before .before .before .before .before .before .before .before .before .before .before .before .before .before .before .before .before .before .before .before .pre .0 in
     let b = c .before .before .before .before .before .before .before .before .before .before .before .before .before .before .before .before .before .before .before .before .before .before .before .before .before .before .before .before .before .before .before .before .before .before .before .before .before .before .before .before .before .before .before .before .before .build-rows in
-    links-settled (a .settings) (watchIn (a .watch)) (now (a .sources)) (b .ensures) (c .before .before .before .before .before .before .before .before .before .before .before .before .before .before .before .before .before .before .before .before .before .before .before .before .before .before .solve-rows .ensures)
-    (rw (b .kept .1 .1 .1 .1 .0, p .starts-long) at (c .before .before .before .before .before .before .before .before .before .before .clear .ensures))
-    (rw (b .kept .1 .1 .1 .1 .1 .0, p .columns-long) at (c .before .before .before .before .before .before .clear2 .ensures))
-    (rw (b .kept .1 .1 .1 .1 .1 .1 .0, p .weights-long) at (c .before .before .clear-floats .ensures))
+    record {
+      leaves = links-settled (a .settings) (watchIn (a .watch)) (now (a .sources)) (b .ensures) (c .before .before .before .before .before .before .before .before .before .before .before .before .before .before .before .before .before .before .before .before .before .before .before .before .before .before .solve-rows .ensures .leaves)
+          (rw (b .kept .1 .1 .1 .1 .0, p .starts-long) at (c .before .before .before .before .before .before .before .before .before .before .clear .ensures))
+          (rw (b .kept .1 .1 .1 .1 .1 .0, p .columns-long) at (c .before .before .before .before .before .before .clear2 .ensures))
+          (rw (b .kept .1 .1 .1 .1 .1 .1 .0, p .weights-long) at (c .before .before .clear-floats .ensures));
+    }
 
 pub solve-links-spec : {M : Type 1} → statement M
 solve-links-spec =

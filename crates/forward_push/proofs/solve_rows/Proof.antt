@@ -46,7 +46,7 @@ unfolding givenRows ends
 returns c =
     let a = c .before .before .before .before .before .before .before .before .before .before .before .before .before .before .before .before .before .before .before .before .before .before .before .before .before .before .before .before .before .before .before .before .before .before .before .before .before .before .before .args in
     let p = c .before .before .before .before .before .before .before .before .before .before .before .before .before .before .before .before .before .before .before .before .before .before .before .before .before .before .before .before .before .before .before .before .before .before .before .before .before .before .before .pre in
-    rows-settled (p .0) (p .1 .degrees-long) (c .before .before .before .before .before .before .before .before .before .before .before .before .before .before .before .before .before .before .before .before .before .before .before .before .before .before .sum-rows .ensures) (a .settings) (watchIn (a .watch)) (now (a .sources)) (c .before .before .before .before .before .before .before .before .before .before .before .before .before .before .before .before .solve-settled .ensures) (c .before .before .clear-floats .ensures)
+    record { leaves = rows-settled (p .0) (p .1 .degrees-long) (c .before .before .before .before .before .before .before .before .before .before .before .before .before .before .before .before .before .before .before .before .before .before .before .before .before .before .sum-rows .ensures) (a .settings) (watchIn (a .watch)) (now (a .sources)) (c .before .before .before .before .before .before .before .before .before .before .before .before .before .before .before .before .solve-settled .ensures) (c .before .before .clear-floats .ensures) }
 
 pub solve-rows-spec : {M : Type 1} → statement M
 solve-rows-spec =

@@ -1,52 +1,21 @@
--- `forward_push_links::query_single_entry_links` meets its contract: refused by what the tests say, or done as `solve_links` says. Assumes nothing.
-use mathlib.Core.Path.{_≡_, ap, _∙_}
+-- `forward_push_links::query_single_entry_links` meets its contract: what `checked_links` leaves, and the score in it. Assumes nothing.
+use mathlib.Core.Path.{refl}
 use native.Mathlib.Omega.{arith}
-use denote.Ref.{now}
-use lib.ListN.{getD}
-use Rattle.numbers.specs.Numbers.{+0}
-use Rattle.refusals.specs.Refusals.{_or_, settings}
-use Rattle.refusals.specs.Calls.{Left}
-use Rattle.rules.specs.Answers.{scoreAt}
 use Rattle.solver.specs.States.{watchIn}
-use Rattle.calls.specs.declared.Counts.{Counts}
-use Rattle.calls.specs.Lent.{solveLent, solveDone, LinksLent, linksLent, linksDone}
-use Rattle.calls.specs.Outcomes.{givenLinks}
-use Rattle.calls.proofs.Left.{query-refused, query-done}
-use Rattle.forward_push.proofs.Asked.{links-asked}
+use Rattle.calls.proofs.Left.{no-further, query-answered}
+use Rattle.forward_push.proofs.After.{links-estimate}
 use borrow.Author.Needs.{needs}
 use Rattle.forward_push_links.proofs.query_single_entry_links.Statement.{statement}
 use Rattle.forward_push_links.proofs.query_single_entry_links.Tie as tie
 
--- the number
-number : (c : tie.After-or) → let a = c .before .before .before .before .before .before .before .before .before .before .before .before .before .before .before .before .args in
-    c .or .result
-    ≡ givenLinks (a .n) (now (a .from)) (now (a .to)) (now (a .weight)) (linksLent (now (a .starts)) (now (a .columns)) (now (a .weights))
-    (solveLent (now (a .estimate)) (now (a .residual)) (now (a .degrees)) (now (a .priorities)) (now (a .nodes)) (now (a .queued)) (now (a .visited))))
-    .tests 0 or settings (a .settings)
-unfolding givenLinks
-number c = rw (c .before .refuse-settings .ensures, c .before .before .refuse-links .ensures) at (c .or .ensures)
+slice-aggregate-checked-links : tie.Need-slice-aggregate-checked-links
+slice-aggregate-checked-links c = search needs
 
-refuse-links-requires : tie.Need-refuse-links-requires
-refuse-links-requires c κs = search needs
+checked-links-requires : tie.Need-checked-links-requires
+checked-links-requires c κs = λ _. omega arith
 
-refuse-settings-requires : tie.Need-refuse-settings-requires
-refuse-settings-requires c κs = search needs
-
-or-requires : tie.Need-or-requires
-or-requires c κs = search needs
-
-returns : tie.Need-returns
-unfolding givenLinks
-returns c = query-refused _ _ _ _ (number (c .before)) (c .if1 .taken)
-
-slice-aggregate-solve-links : tie.Need-slice-aggregate-solve-links
-slice-aggregate-solve-links c = search needs
-
-solve-links-requires : tie.Need-solve-links-requires
-solve-links-requires c κs = links-asked 0 _ (λ _. omega arith) _ _ _ _ _ (number (c .before .before .before .before .before .before .before .before .before .before .before .before)) (c .before .before .before .before .before .before .before .before .before .before .before .if1 .left)
-
-score-at-requires : tie.Need-score-at-requires
-score-at-requires c κs = search needs
+answered-requires : tie.Need-answered-requires
+answered-requires c κs = search needs
 
 same-length : tie.Need-same-length
 same-length c = search needs
@@ -78,23 +47,17 @@ same-length-9 c = search needs
 same-length-10 : tie.Need-same-length-10
 same-length-10 c = search needs
 
-returns-2 : tie.Need-returns-2
-unfolding givenLinks linksDone solveDone watchIn scoreAt
-returns-2 c =
-    let s = c .before .before .before .before .before .before .before .before .before .before .before .before .before .before .before .before .before .before .before .before .before .before .solve-links .ensures in
-    query-done _ _ _ _ (number (c .before .before .before .before .before .before .before .before .before .before .before .before .before .before .before .before .before .before .before .before .before .before .before .before .before .before .before .before .before .before .before .before .before .before .before)) (c .before .before .before .before .before .before .before .before .before .before .before .before .before .before .before .before .before .before .before .before .before .before .before .before .before .before .before .before .before .before .before .before .before .before .if1 .left) s (c .score-at .ensures ∙ ap (λ (x : Left Counts LinksLent). getD (x .lent .solve .estimate) (c .before .before .before .before .before .before .before .before .before .before .before .before .before .before .before .before .before .before .before .before .before .before .before .before .before .before .before .before .before .before .before .before .before .before .before .before .before .before .before .before .before .before .before .before .before .before .before .before .before .before .before .args .target) +0) s)
+returns : tie.Need-returns
+unfolding watchIn
+returns c = query-answered _ _ _ _ (λ b. b .solve .estimate) (links-estimate _ _ _ _ _ _) (no-further _ _ _ _ _ _ _ refl (c .before .before .before .before .before .before .before .before .before .before .before .before .before .before .before .before .before .before .before .before .before .before .checked-links .ensures)) (c .answered .ensures)
 
 pub query-single-entry-links-spec : {M : Type 1} → statement M
 query-single-entry-links-spec =
     tie.close
     (tie.spec
-    refuse-links-requires
-    refuse-settings-requires
-    or-requires
-    returns
-    slice-aggregate-solve-links
-    solve-links-requires
-    score-at-requires
+    slice-aggregate-checked-links
+    checked-links-requires
+    answered-requires
     same-length
     same-length-2
     same-length-3
@@ -105,4 +68,4 @@ query-single-entry-links-spec =
     same-length-8
     same-length-9
     same-length-10
-    returns-2)
+    returns)

@@ -1,58 +1,23 @@
--- `forward_push_links::solve_with_target_links` meets its contract: refused by what the tests say, or done as `solve_links` says. Assumes nothing.
-use mathlib.Core.Path.{_≡_, ap}
+-- `forward_push_links::solve_with_target_links` meets its contract: what `checked_links` leaves, and the norm. Assumes nothing.
 use native.Mathlib.Omega.{arith}
-use denote.Ref.{now}
-use Rattle.refusals.specs.Refusals.{_or_, settings, precision}
-use Rattle.refusals.specs.Calls.{Left}
 use Rattle.solver.specs.States.{watchIn}
-use Rattle.calls.specs.declared.Counts.{Counts}
-use Rattle.calls.specs.Lent.{solveLent, solveDone, LinksLent, linksLent, linksDone}
-use Rattle.calls.specs.Outcomes.{givenLinks}
-use Rattle.calls.proofs.Left.{solve-refused, solve-done}
-use Rattle.forward_push.proofs.Asked.{links-asked}
+use Rattle.calls.proofs.Left.{with-further, solve-measured}
+use Rattle.forward_push.proofs.After.{links-residual}
 use borrow.Author.Needs.{needs}
 use Rattle.forward_push_links.proofs.solve_with_target_links.Statement.{statement}
 use Rattle.forward_push_links.proofs.solve_with_target_links.Tie as tie
 
--- the number
-number : (c : tie.After-or2) → let a = c .before .before .before .before .before .before .before .before .before .before .before .before .before .before .before .before .before .before .args in
-    c .or2 .result
-    ≡ givenLinks (a .n) (now (a .from)) (now (a .to)) (now (a .weight)) (linksLent (now (a .starts)) (now (a .columns)) (now (a .weights))
-    (solveLent (now (a .estimate)) (now (a .residual)) (now (a .degrees)) (now (a .priorities)) (now (a .nodes)) (now (a .queued)) (now (a .visited))))
-    .tests 0 or settings (a .settings) or precision (a .target-precision)
-unfolding givenLinks
-number c = rw (c .before .or .ensures, c .before .before .refuse-precision .ensures, c .before .before .before .refuse-settings .ensures, c .before .before .before .before .refuse-links .ensures) at (c .or2 .ensures)
-
-refuse-links-requires : tie.Need-refuse-links-requires
-refuse-links-requires c κs = search needs
-
-refuse-settings-requires : tie.Need-refuse-settings-requires
-refuse-settings-requires c κs = search needs
-
 refuse-precision-requires : tie.Need-refuse-precision-requires
 refuse-precision-requires c κs = search needs
 
-or-requires : tie.Need-or-requires
-or-requires c κs = search needs
+slice-aggregate-checked-links : tie.Need-slice-aggregate-checked-links
+slice-aggregate-checked-links c = search needs
 
-or-requires-2 : tie.Need-or-requires-2
-or-requires-2 c κs = search needs
+checked-links-requires : tie.Need-checked-links-requires
+checked-links-requires c κs = λ _. omega arith
 
-refused-requires : tie.Need-refused-requires
-refused-requires c κs = search needs
-
-returns : tie.Need-returns
-unfolding givenLinks
-returns c = solve-refused _ _ _ (number (c .before .before)) (c .before .if1 .taken) (c .refused .ensures)
-
-slice-aggregate-solve-links : tie.Need-slice-aggregate-solve-links
-slice-aggregate-solve-links c = search needs
-
-solve-links-requires : tie.Need-solve-links-requires
-solve-links-requires c κs = links-asked 0 _ (λ _. omega arith) _ _ _ _ _ (number (c .before .before .before .before .before .before .before .before .before .before .before .before)) (c .before .before .before .before .before .before .before .before .before .before .before .if1 .left)
-
-done-requires : tie.Need-done-requires
-done-requires c κs = search needs
+measured-requires : tie.Need-measured-requires
+measured-requires c κs = search needs
 
 same-length : tie.Need-same-length
 same-length c = search needs
@@ -84,26 +49,18 @@ same-length-9 c = search needs
 same-length-10 : tie.Need-same-length-10
 same-length-10 c = search needs
 
-returns-2 : tie.Need-returns-2
-unfolding givenLinks linksDone solveDone watchIn
-returns-2 c =
-    let s = c .before .before .before .before .before .before .before .before .before .before .before .before .before .before .before .before .before .before .before .before .before .before .solve-links .ensures in
-    solve-done _ _ _ (number (c .before .before .before .before .before .before .before .before .before .before .before .before .before .before .before .before .before .before .before .before .before .before .before .before .before .before .before .before .before .before .before .before .before .before .before)) (c .before .before .before .before .before .before .before .before .before .before .before .before .before .before .before .before .before .before .before .before .before .before .before .before .before .before .before .before .before .before .before .before .before .before .if1 .left) s (ap (λ (x : Left Counts LinksLent). x .lent .solve .residual) s) (c .done .ensures)
+returns : tie.Need-returns
+unfolding watchIn
+returns c = solve-measured _ _ _ (λ b. b .solve .residual) (links-residual _ _ _ _ _ _) (with-further _ _ _ _ _ _ _ (c .before .before .before .before .before .before .before .before .before .before .before .before .before .before .before .before .before .before .before .before .before .before .before .before .before .before .before .before .before .before .before .before .before .before .refuse-precision .ensures) (c .before .before .before .before .before .before .before .before .before .before .before .before .before .before .before .before .before .before .before .before .before .before .checked-links .ensures)) (c .measured .ensures)
 
 pub solve-with-target-links-spec : {M : Type 1} → statement M
 solve-with-target-links-spec =
     tie.close
     (tie.spec
-    refuse-links-requires
-    refuse-settings-requires
     refuse-precision-requires
-    or-requires
-    or-requires-2
-    refused-requires
-    returns
-    slice-aggregate-solve-links
-    solve-links-requires
-    done-requires
+    slice-aggregate-checked-links
+    checked-links-requires
+    measured-requires
     same-length
     same-length-2
     same-length-3
@@ -114,4 +71,4 @@ solve-with-target-links-spec =
     same-length-8
     same-length-9
     same-length-10
-    returns-2)
+    returns)
