@@ -4,6 +4,7 @@
 #ifndef TALWIGHEST_H
 #define TALWIGHEST_H
 
+#include <stdbool.h>
 #include <stddef.h>
 #include <stdint.h>
 
@@ -56,6 +57,165 @@ uint32_t row_sums(uint32_t n,
                   const uint32_t *columns, size_t columns_length,
                   const double *weights, size_t weights_length,
                   double *degrees, size_t degrees_length);
+
+/* crate forward_push */
+
+uint32_t extrapolated_solution(const double *estimate, size_t estimate_length,
+                               const double *residual, size_t residual_length,
+                               double alpha,
+                               double *solution, size_t solution_length);
+
+/* crates forward_push_links and forward_push_rows: estimate and residual are the answer, what follows them is workspace */
+
+struct Settings {
+    double alpha;
+    double epsilon;
+    double queue_threshold;
+    uint64_t max_pushes;
+    bool adaptive_threshold;
+};
+
+struct Solved {
+    uint32_t refusal;
+    uint64_t push_count;
+    uint64_t nodes_visited;
+    double residual_norm;
+};
+
+struct Scored {
+    uint32_t refusal;
+    double score;
+};
+
+struct Solved solve_single_source_links(uint32_t n,
+                                        const uint32_t *from, size_t from_length,
+                                        const uint32_t *to, size_t to_length,
+                                        const double *weight, size_t weight_length,
+                                        uint32_t source,
+                                        struct Settings settings,
+                                        double *estimate, size_t estimate_length,
+                                        double *residual, size_t residual_length,
+                                        uint32_t *starts, size_t starts_length,
+                                        uint32_t *columns, size_t columns_length,
+                                        double *weights, size_t weights_length,
+                                        double *degrees, size_t degrees_length,
+                                        double *priorities, size_t priorities_length,
+                                        uint32_t *nodes, size_t nodes_length,
+                                        uint64_t *queued, size_t queued_length,
+                                        uint64_t *visited, size_t visited_length);
+
+struct Solved solve_multi_source_links(uint32_t n,
+                                       const uint32_t *from, size_t from_length,
+                                       const uint32_t *to, size_t to_length,
+                                       const double *weight, size_t weight_length,
+                                       const uint32_t *sources, size_t sources_length,
+                                       struct Settings settings,
+                                       double *estimate, size_t estimate_length,
+                                       double *residual, size_t residual_length,
+                                       uint32_t *starts, size_t starts_length,
+                                       uint32_t *columns, size_t columns_length,
+                                       double *weights, size_t weights_length,
+                                       double *degrees, size_t degrees_length,
+                                       double *priorities, size_t priorities_length,
+                                       uint32_t *nodes, size_t nodes_length,
+                                       uint64_t *queued, size_t queued_length,
+                                       uint64_t *visited, size_t visited_length);
+
+struct Solved solve_with_target_links(uint32_t n,
+                                      const uint32_t *from, size_t from_length,
+                                      const uint32_t *to, size_t to_length,
+                                      const double *weight, size_t weight_length,
+                                      uint32_t source,
+                                      uint32_t target,
+                                      double target_precision,
+                                      struct Settings settings,
+                                      double *estimate, size_t estimate_length,
+                                      double *residual, size_t residual_length,
+                                      uint32_t *starts, size_t starts_length,
+                                      uint32_t *columns, size_t columns_length,
+                                      double *weights, size_t weights_length,
+                                      double *degrees, size_t degrees_length,
+                                      double *priorities, size_t priorities_length,
+                                      uint32_t *nodes, size_t nodes_length,
+                                      uint64_t *queued, size_t queued_length,
+                                      uint64_t *visited, size_t visited_length);
+
+struct Scored query_single_entry_links(uint32_t n,
+                                       const uint32_t *from, size_t from_length,
+                                       const uint32_t *to, size_t to_length,
+                                       const double *weight, size_t weight_length,
+                                       uint32_t source,
+                                       uint32_t target,
+                                       struct Settings settings,
+                                       double *estimate, size_t estimate_length,
+                                       double *residual, size_t residual_length,
+                                       uint32_t *starts, size_t starts_length,
+                                       uint32_t *columns, size_t columns_length,
+                                       double *weights, size_t weights_length,
+                                       double *degrees, size_t degrees_length,
+                                       double *priorities, size_t priorities_length,
+                                       uint32_t *nodes, size_t nodes_length,
+                                       uint64_t *queued, size_t queued_length,
+                                       uint64_t *visited, size_t visited_length);
+
+struct Solved solve_single_source_rows(uint32_t n,
+                                       const uint32_t *starts, size_t starts_length,
+                                       const uint32_t *columns, size_t columns_length,
+                                       const double *weights, size_t weights_length,
+                                       uint32_t source,
+                                       struct Settings settings,
+                                       double *estimate, size_t estimate_length,
+                                       double *residual, size_t residual_length,
+                                       double *degrees, size_t degrees_length,
+                                       double *priorities, size_t priorities_length,
+                                       uint32_t *nodes, size_t nodes_length,
+                                       uint64_t *queued, size_t queued_length,
+                                       uint64_t *visited, size_t visited_length);
+
+struct Solved solve_multi_source_rows(uint32_t n,
+                                      const uint32_t *starts, size_t starts_length,
+                                      const uint32_t *columns, size_t columns_length,
+                                      const double *weights, size_t weights_length,
+                                      const uint32_t *sources, size_t sources_length,
+                                      struct Settings settings,
+                                      double *estimate, size_t estimate_length,
+                                      double *residual, size_t residual_length,
+                                      double *degrees, size_t degrees_length,
+                                      double *priorities, size_t priorities_length,
+                                      uint32_t *nodes, size_t nodes_length,
+                                      uint64_t *queued, size_t queued_length,
+                                      uint64_t *visited, size_t visited_length);
+
+struct Solved solve_with_target_rows(uint32_t n,
+                                     const uint32_t *starts, size_t starts_length,
+                                     const uint32_t *columns, size_t columns_length,
+                                     const double *weights, size_t weights_length,
+                                     uint32_t source,
+                                     uint32_t target,
+                                     double target_precision,
+                                     struct Settings settings,
+                                     double *estimate, size_t estimate_length,
+                                     double *residual, size_t residual_length,
+                                     double *degrees, size_t degrees_length,
+                                     double *priorities, size_t priorities_length,
+                                     uint32_t *nodes, size_t nodes_length,
+                                     uint64_t *queued, size_t queued_length,
+                                     uint64_t *visited, size_t visited_length);
+
+struct Scored query_single_entry_rows(uint32_t n,
+                                      const uint32_t *starts, size_t starts_length,
+                                      const uint32_t *columns, size_t columns_length,
+                                      const double *weights, size_t weights_length,
+                                      uint32_t source,
+                                      uint32_t target,
+                                      struct Settings settings,
+                                      double *estimate, size_t estimate_length,
+                                      double *residual, size_t residual_length,
+                                      double *degrees, size_t degrees_length,
+                                      double *priorities, size_t priorities_length,
+                                      uint32_t *nodes, size_t nodes_length,
+                                      uint64_t *queued, size_t queued_length,
+                                      uint64_t *visited, size_t visited_length);
 
 #ifdef __cplusplus
 }

@@ -4,7 +4,7 @@ use mathlib.Core.List.{List, [], map}
 use mathlib.Core.Path.{_≡_, sym, ap, _∙_}
 use lib.ListN.{length, getD, List·getD-map}
 use lib.Ieee.{Float, nan}
-use Rattle.graph.specs.Rows.{Entry, rowsIn, degree}
+use Rattle.graph.specs.Rows.{rowsIn, degree}
 use Rattle.graph.specs.Store.{Rowed, degreesIn}
 use Rattle.graph.proofs.Read.{degrees-are, length-degrees}
 use Rattle.rules.specs.Ways.{rowAt}

@@ -1,6 +1,6 @@
 -- The first entry's node is next, and leaves: its entry goes to the last place, the heap is one shorter, and what came to the front sinks. Assumes nothing.
 use mathlib.Core.Path.{_≡_, refl, sym, ap, _∙_}
-use mathlib.Core.Logic.{inl, inr}
+use mathlib.Core.Logic.{_⊎_, inl, inr}
 use mathlib.Core.Bool.{false}
 use mathlib.Core.List.{List}
 use Prim.Native.Nat.{ℕ, zero, suc, _-_, _≤_, _<_}
@@ -98,12 +98,12 @@ module _ (size : ℕ) (ps : List Float) (ns ws : List ℕ) (H : Heap size ps ns 
         ∙ ap (λ (l : List Slot). set l (e₁ m .node) out) exchanged-fills
         ∙ ap (λ (a : Entry). set slots (a .node) out) (x .second)
 
-    ordered-left : OrderedBut (λ j. parent j ≡ 0) m e₁ 0
+    ordered-left : OrderedBut (λ j. (j ≡ 0) ⊎ (parent j ≡ 0)) m e₁ 0
     ordered-left =
         record {
           numbers = λ k h. numbers-among size e e₁ comes (H .numbers) k (omega arith);
           rest = λ j a b ne.
-              under-by (x .others j (omega arith) (omega arith)) (x .others (parent j) ne (omega arith)) (H .ordered j a (omega arith));
+              under-by (x .others j (omega arith) (omega arith)) (x .others (parent j) (λ q. ne (inr q)) (omega arith)) (H .ordered j a (omega arith));
           past = λ j a b s z. absurd (omega arith);
         }
 

@@ -1,7 +1,7 @@
 // Replays a recording of the repaired Rust's work queue through `queue`, and compares every popped
 // node and every size. The recording is a list of records of 16 bytes, little-endian: what is done
-// (u16), a node (u16), the size afterwards (u32) and a number (f64); oracle/runs/src/bin/record.rs
-// makes it.
+// (u16), a node (u16), the size afterwards (u32) and a number (f64); oracle/runs/src/bin/record makes
+// it.
 use libc::STDIN_FILENO;
 use libc::STDOUT_FILENO;
 use queue::WorkQueue;
@@ -44,40 +44,15 @@ struct Tally {
     differ: u64,
 }
 
-fn wide(byte: u8) -> u64 {
-    byte as u64
-}
-
-// The number in `width` bytes from `at` on.
-fn number(bytes: &[u8], at: usize, width: usize) -> u64
-    requires { ⌜ at + width ≤ length (now bytes) ⌝ }
-{
-    let mut n = 0;
-    let mut k = width;
-    while k > 0 {
-        k -= 1;
-        n = (n << 8) | wide(bytes[at + k]);
-    }
-    n
-}
-
-// The float of a bit pattern, and a NaN for each of the patterns of a NaN.
-fn float(bits: u64) -> f64 {
-    if bits % 0x8000_0000_0000_0000 <= 0x7ff0_0000_0000_0000 {
-        return f64::from_bits(bits);
-    }
-    0.0 / 0.0
-}
-
 // The record at `at`.
 fn read_operation(bytes: &[u8], at: usize) -> Operation
     requires { ⌜ at + 16 ≤ length (now bytes) ⌝ }
     ensures { λ r. ⌜ r .node < 65536 ⌝ }
 {
-    let what = number(bytes, at, 2);
-    let node = (number(bytes, at + 2, 2) % 0x1_0000) as u32;
-    let size = (number(bytes, at + 4, 4) % 0x1_0000_0000) as u32;
-    let number = float(number(bytes, at + 8, 8));
+    let what = recording::number(bytes, at, 2);
+    let node = (recording::number(bytes, at + 2, 2) % 0x1_0000) as u32;
+    let size = (recording::number(bytes, at + 4, 4) % 0x1_0000_0000) as u32;
+    let number = recording::float(recording::number(bytes, at + 8, 8));
     Operation {
         what,
         node,

@@ -1,15 +1,32 @@
 //! Runs kinds of input through both sides. It stops at the first difference, with the smallest input that shows it.
 use std::fmt::Debug;
 use std::process::exit;
+use std::time::{Duration, Instant};
+
+/// How long a smaller input is looked for.
+const PATIENCE: Duration = Duration::from_secs(40);
 
 pub struct Comparison {
     kinds: usize,
     inputs: u64,
+    planted: Option<Planted>,
+}
+
+/// How many of the planted differences were found, and how many were not.
+#[derive(Default)]
+struct Planted {
+    found: usize,
+    missed: usize,
 }
 
 impl Comparison {
     pub fn new() -> Self {
-        Self { kinds: 0, inputs: 0 }
+        Self { kinds: 0, inputs: 0, planted: None }
+    }
+
+    /// A comparison with a difference planted in each kind: it goes on after each, and fails where it finds them all.
+    pub fn of_planted() -> Self {
+        Self { planted: Some(Planted::default()), ..Self::new() }
     }
 
     /// Compares every input of one kind. `difference` says what differs at an input, if anything; `smaller` lists
@@ -28,17 +45,36 @@ impl Comparison {
                 let least = smallest(input, &difference, &smaller);
                 println!("{name}: differs after {count} inputs, at the smallest of them {least:?}");
                 println!("  {}", difference(&least).expect("the smallest input differs too"));
-                println!("compare: {} passed, 1 failed", self.kinds);
-                exit(1);
+                return self.differs();
             }
         }
         println!("{name}: {count} inputs, 0 differences");
         self.kinds += 1;
         self.inputs += count;
+        if let Some(planted) = &mut self.planted {
+            planted.missed += 1;
+        }
+    }
+
+    fn differs(&mut self) {
+        match &mut self.planted {
+            Some(planted) => planted.found += 1,
+            None => {
+                println!("compare: {} passed, 1 failed", self.kinds);
+                exit(1);
+            }
+        }
     }
 
     pub fn finish(self) {
         println!("compare: {} inputs in all", self.inputs);
+        if let Some(Planted { found, missed }) = self.planted {
+            println!("compare: {found} planted differences found, {missed} not");
+            if missed == 0 {
+                println!("compare: 0 passed, 1 failed");
+                exit(1);
+            }
+        }
         println!("compare: {} passed, 0 failed", self.kinds);
     }
 }
@@ -49,14 +85,15 @@ impl Default for Comparison {
     }
 }
 
-/// Goes from a differing input to smaller ones that differ too, until none is left.
+/// Goes from a differing input to smaller ones that differ too, until none is left, or patience is at an end.
 fn smallest<I: Clone>(
     input: I,
     difference: &impl Fn(&I) -> Option<String>,
     smaller: &impl Fn(&I) -> Vec<I>,
 ) -> I {
+    let start = Instant::now();
     let mut least = input;
-    while let Some(next) = smaller(&least).into_iter().find(|i| difference(i).is_some()) {
+    while let Some(next) = smaller(&least).into_iter().find(|i| start.elapsed() < PATIENCE && difference(i).is_some()) {
         least = next;
     }
     least

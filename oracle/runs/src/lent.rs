@@ -19,6 +19,15 @@ impl Word for u32 {
     }
 }
 
+impl Word for u64 {
+    fn of(bits: u64) -> Self {
+        bits
+    }
+    fn bits(self) -> u64 {
+        self
+    }
+}
+
 impl Word for f64 {
     fn of(bits: u64) -> Self {
         f64::from_bits(bits)
@@ -78,8 +87,18 @@ impl<T: Word> Lent<T> {
 
     /// The first place of the buffer that holds another word than `contents`, bit for bit.
     pub fn differs(&self, contents: &[T]) -> Option<usize> {
+        self.unlike(contents, |a, b| a.bits() == b.bits())
+    }
+
+    /// The first place of the buffer that holds another word than `contents`, as `same` tells.
+    pub fn unlike(&self, contents: &[T], same: impl Fn(T, T) -> bool) -> Option<usize> {
         let words = black_box(self.slice());
         assert_eq!(words.len(), contents.len(), "a buffer is compared with contents of its own length");
-        (0..words.len()).find(|&place| words[place].bits() != contents[place].bits())
+        (0..words.len()).find(|&place| !same(words[place], contents[place]))
+    }
+
+    /// The first place of the buffer that is not zero, all bits of it.
+    pub fn nonzero(&self) -> Option<usize> {
+        black_box(self.slice()).iter().position(|word| word.bits() != 0)
     }
 }

@@ -1,5 +1,5 @@
 -- `calls::solve_settled` meets its contract: the state that the solve ends in, counted (`counts-are`), and what is cleared after it. Assumes nothing.
-use mathlib.Core.Path.{_≡_, ap, _∙_}
+use mathlib.Core.Path.{ap, _∙_}
 use denote.Ref.{now}
 use lib.ListN.{length}
 use Rattle.rules.specs.Rules.{State}

@@ -1,22 +1,22 @@
 //! `from_edges`, `from_matrix`, `transpose` and `row_sums` against the Rust's `PushGraph` and `CompressedSparseRow`,
 //! and against the refusals of docs/RULES.md. Each call is compared whole: what it returns, and every word of every buffer.
-mod call;
-mod damaged;
-mod entry;
 mod expected;
-mod limits;
-mod lists;
-mod smaller;
-mod sound;
 
+use crate::calls::call::Call;
+use crate::calls::entry::{Entry, BUILDERS};
+use crate::calls::given::{graph_of_links, matrix};
+use crate::calls::outcome::Outcome;
+use crate::calls::refusal::{misread, refusal};
+use crate::calls::smaller::smaller;
+use crate::calls::sound::{MOST_LINKS, MOST_NODES};
+use crate::calls::{damaged, limits, lists};
 use crate::Asked;
-use call::{Call, Outcome};
-use entry::{Entry, ENTRIES};
 use repaired::graph::PushGraph;
 use runs::comparison::Comparison;
 use runs::random::Random;
-use smaller::smaller;
-use sound::{MOST_LINKS, MOST_NODES};
+
+/// Three whose sum from the left is not that from the right, and -0.0, whose sign a row keeps and a sum loses.
+const FEW_WEIGHTS: [f64; 4] = [0.1, 0.2, 0.3, -0.0];
 
 pub fn compare(asked: &Asked, comparison: &mut Comparison, random: &mut Random) {
     small_lists(asked, comparison);
@@ -29,7 +29,7 @@ pub fn compare(asked: &Asked, comparison: &mut Comparison, random: &mut Random) 
 fn small_lists(asked: &Asked, comparison: &mut Comparison) {
     for links in 0..=asked.size(3, 4) as u32 {
         let name = format!("graph, every list of up to 3 nodes and {links} links");
-        comparison.kind(&name, lists::every(3, links), of_links, smaller);
+        comparison.kind(&name, lists::every(3, links, FEW_WEIGHTS), of_links, smaller);
     }
 }
 
@@ -69,14 +69,14 @@ fn random_rows(asked: &Asked, comparison: &mut Comparison, random: &mut Random) 
 }
 
 fn refusals(asked: &Asked, comparison: &mut Comparison, random: &mut Random) {
-    for entry in ENTRIES {
+    for entry in BUILDERS {
         let mut kind = |name: &str, inputs: &mut dyn Iterator<Item = Call>| {
             comparison.kind(&format!("{}, {name}", entry.name()), inputs, of_call, smaller);
         };
         kind("limits of weight, in each place", &mut limits::weights(entry).into_iter());
         kind("each length, and each two", &mut limits::lengths(entry).into_iter());
         kind("each damage", &mut damaged::singles(entry).into_iter());
-        kind("each two damages", &mut damaged::pairs(entry));
+        kind("each two damages", &mut damaged::pairs(entry, true));
         let all = damaged::damages(entry);
         let several = (0..asked.size(2_000, 50_000)).map(|_| damaged::several(random, entry, &all));
         kind("several damages", &mut several.into_iter());
@@ -88,32 +88,32 @@ fn refusals(asked: &Asked, comparison: &mut Comparison, random: &mut Random) {
 
 /// These come last: what fails elsewhere too is found there at a smaller input.
 fn largest(comparison: &mut Comparison) {
-    for entry in ENTRIES {
+    for entry in BUILDERS {
         comparison.kind(&format!("{}, limits of size", entry.name()), limits::sizes(entry), of_call, smaller);
     }
-    comparison.kind("graph, edges done by hand", limits::by_hand().into_iter(), of_edge, |_| Vec::new());
+    comparison.kind("graph, edges done by hand", limits::by_hand(&BUILDERS).into_iter(), of_edge, |_| Vec::new());
 }
 
 /// A call of `from_edges`, and the three others on the rows that the Rust makes of it.
 fn of_links(call: &Call) -> Option<String> {
-    if expected::refusal(call) != 0 {
+    if refusal(call) != 0 {
         return of_call(call);
     }
-    let graph = expected::graph_of_links(call);
-    call.difference(&expected::built(&graph.adjacency, call.links())).or_else(|| on_rows_of(&graph))
+    let graph = graph_of_links(call);
+    call.made().difference(&expected::built(&graph.adjacency, call.links())).or_else(|| on_rows_of(&graph))
 }
 
 /// The three entries that take rows, on the rows of a call of any one of them.
 fn of_rows(call: &Call) -> Option<String> {
-    if expected::refusal(call) != 0 {
+    if refusal(call) != 0 {
         return of_call(call);
     }
-    on_rows_of(&PushGraph::from_matrix(&expected::matrix(call)))
+    on_rows_of(&PushGraph::from_matrix(&matrix(call)))
 }
 
 fn on_rows_of(graph: &PushGraph) -> Option<String> {
     let rows = &graph.adjacency;
-    let differs = |entry: Entry, outcome: Outcome| Call::on_matrix(entry, rows).difference(&outcome);
+    let differs = |entry: Entry, outcome: Outcome| Call::on_matrix(entry, rows).made().difference(&outcome);
     differs(Entry::FromMatrix, expected::graph(graph))
         .or_else(|| differs(Entry::Transpose, expected::transposed(&rows.transpose())))
         .or_else(|| differs(Entry::RowSums, expected::sums(rows.row_sums())))
@@ -121,11 +121,10 @@ fn on_rows_of(graph: &PushGraph) -> Option<String> {
 
 /// One call of any kind.
 fn of_call(call: &Call) -> Option<String> {
-    call.difference(&expected::outcome(call))
+    call.made().difference(&expected::outcome(call))
 }
 
 /// A call whose number docs/RULES.md gives: what is expected of damaged calls is held to it too.
 fn of_edge((call, number): &(Call, u32)) -> Option<String> {
-    let read = expected::refusal(call);
-    (read != *number).then(|| format!("expected.rs gives {read}, docs/RULES.md {number}")).or_else(|| of_call(call))
+    misread(call, *number).or_else(|| of_call(call))
 }

@@ -3,7 +3,10 @@
 //! compare [full] [seed N] [planted]
 //!
 //! Without `full` it runs the share that the gate runs. `planted` puts one wrong digit into some of the proved
-//! library's answers, to show that a difference is found: the program must then fail.
+//! library's answers, of the square root and then of each call of the forward solver, to show that a difference is
+//! found: the program must then fail, and it does so only where each is found.
+mod calls;
+mod forward;
 mod graph;
 mod norm;
 mod square_root;
@@ -36,10 +39,17 @@ fn main() {
             _ => panic!("compare [full] [seed N] [planted]"),
         }
     }
-    let mut comparison = Comparison::new();
     let mut random = Random::new(asked.seed);
+    if asked.planted {
+        let mut comparison = Comparison::of_planted();
+        square_root::planted(&mut comparison, &mut random);
+        forward::planted(&mut comparison, &mut random);
+        return comparison.finish();
+    }
+    let mut comparison = Comparison::new();
     square_root::compare(&asked, &mut comparison, &mut random);
     norm::compare(&asked, &mut comparison, &mut random);
     graph::compare(&asked, &mut comparison, &mut random);
+    forward::compare(&asked, &mut comparison, &mut random);
     comparison.finish();
 }

@@ -6,12 +6,7 @@ use runs::patterns::{self, Pattern};
 use runs::random::Random;
 
 pub fn compare(asked: &Asked, comparison: &mut Comparison, random: &mut Random) {
-    let ours = if asked.planted { planted } else { entries::square_root };
-    let difference = |p: &Pattern| {
-        let x = f64::from_bits(p.0);
-        let (a, b) = (ours(x), x.sqrt());
-        (!same(a, b)).then(|| format!("square_root gives {:016x}, the Rust {:016x}", a.to_bits(), b.to_bits()))
-    };
+    let difference = |p: &Pattern| difference(entries::square_root, p);
     let mut kind = |name: &str, inputs: Vec<Pattern>| {
         comparison.kind(&format!("square_root, {name}"), inputs.into_iter(), difference, patterns::smaller);
     };
@@ -28,8 +23,18 @@ pub fn compare(asked: &Asked, comparison: &mut Comparison, random: &mut Random) 
     comparison.kind("square_root, random patterns", next, difference, patterns::smaller);
 }
 
+fn difference(ours: fn(f64) -> f64, p: &Pattern) -> Option<String> {
+    let x = f64::from_bits(p.0);
+    let (a, b) = (ours(x), x.sqrt());
+    (!same(a, b)).then(|| format!("square_root gives {:016x}, the Rust {:016x}", a.to_bits(), b.to_bits()))
+}
+
 /// The proved root with its last digit turned where the third and fourth digits of x are ones.
-fn planted(x: f64) -> f64 {
-    let root = entries::square_root(x);
-    if x.to_bits() >> 48 & 3 == 3 { f64::from_bits(root.to_bits() ^ 1) } else { root }
+pub fn planted(comparison: &mut Comparison, random: &mut Random) {
+    let spoiled = |x: f64| {
+        let root = entries::square_root(x);
+        if x.to_bits() >> 48 & 3 == 3 { f64::from_bits(root.to_bits() ^ 1) } else { root }
+    };
+    let inputs = patterns::squares(random, 1_000).into_iter();
+    comparison.kind("square_root, planted", inputs, |p| difference(spoiled, p), patterns::smaller);
 }

@@ -40,7 +40,7 @@ pub fn once(random: &mut Random) {
 }
 
 /// Random links among the nodes.
-fn drawn(random: &mut Random, nodes: u64, links: usize) -> Vec<(usize, usize, f64)> {
+pub fn drawn(random: &mut Random, nodes: u64, links: usize) -> Vec<(usize, usize, f64)> {
     (0..links).map(|_| (random.below(nodes) as usize, random.below(nodes) as usize, random.unit())).collect()
 }
 

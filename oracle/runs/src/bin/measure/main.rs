@@ -1,5 +1,10 @@
 //! Measures the proved library beside the Rust, in one run. A ratio above 1 says that the proved library takes longer.
-//! `measure once` builds the largest graph once by each side, untimed, for a tool that counts instructions.
+//!
+//! measure [once graph | once forward]
+//!
+//! With `once` each side works once, untimed, for a tool that counts instructions: `graph` builds the largest graph,
+//! `forward` solves one of 65,536 nodes and 262,144 links.
+mod forward;
 mod graph;
 mod heap;
 
@@ -13,12 +18,21 @@ const ROUNDS: usize = 101;
 
 fn main() {
     let mut random = Random::new(1);
-    if env::args().nth(1).as_deref() == Some("once") {
-        return graph::once(&mut random);
+    let words: Vec<String> = env::args().skip(1).collect();
+    let words: Vec<&str> = words.iter().map(String::as_str).collect();
+    match words[..] {
+        [] => measure(&mut random),
+        ["once", "graph"] => graph::once(&mut random),
+        ["once", "forward"] => forward::once(&mut random),
+        _ => panic!("measure [once graph | once forward]"),
     }
-    square_root(&mut random);
-    norm(&mut random);
-    graph::measure(&mut random);
+}
+
+fn measure(random: &mut Random) {
+    square_root(random);
+    norm(random);
+    graph::measure(random);
+    forward::measure(random);
 }
 
 /// One call of the square root, against the machine's own instruction.
@@ -46,6 +60,6 @@ fn norm(random: &mut Random) {
 }
 
 /// Keeps a result that nothing reads, so that the work for it is done.
-fn keep(x: f64) {
-    let _ = black_box(x);
+fn keep<T>(result: T) {
+    let _ = black_box(result);
 }

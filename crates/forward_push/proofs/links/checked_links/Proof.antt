@@ -1,0 +1,96 @@
+-- `forward_push::links::checked_links` meets its contract: refused by what the tests say, or done as `solve_links` says. Assumes nothing.
+use mathlib.Core.Path.{_≡_}
+use denote.Ref.{now}
+use Rattle.refusals.specs.Refusals.{_or_, settings}
+use Rattle.calls.specs.Lent.{solveLent, linksLent}
+use Rattle.calls.specs.Outcomes.{givenLinks}
+use Rattle.calls.proofs.Left.{call-refused, call-done}
+use Rattle.forward_push.proofs.Asked.{links-asked}
+use borrow.Author.Needs.{needs}
+use Rattle.forward_push.proofs.links.checked_links.Statement.{statement}
+use Rattle.forward_push.proofs.links.checked_links.Tie as tie
+
+-- the number
+number : (c : tie.After-or2) → let a = c .before .before .before .before .before .before .before .before .before .before .before .before .before .before .before .before .before .before .args in
+    c .or2 .result
+    ≡ givenLinks (a .n) (now (a .from)) (now (a .to)) (now (a .weight)) (linksLent (now (a .starts)) (now (a .columns)) (now (a .weights))
+    (solveLent (now (a .estimate)) (now (a .residual)) (now (a .degrees)) (now (a .priorities)) (now (a .nodes)) (now (a .queued)) (now (a .visited))))
+    .tests (a .listed) or settings (a .settings) or a .further
+unfolding givenLinks
+number c = rw (c .before .or .ensures, c .before .before .refuse-settings .ensures, c .before .before .before .refuse-links .ensures) at (c .or2 .ensures)
+
+refuse-links-requires : tie.Need-refuse-links-requires
+refuse-links-requires c κs = search needs
+
+refuse-settings-requires : tie.Need-refuse-settings-requires
+refuse-settings-requires c κs = search needs
+
+or-requires : tie.Need-or-requires
+or-requires c κs = search needs
+
+or-requires-2 : tie.Need-or-requires-2
+or-requires-2 c κs = search needs
+
+returns : tie.Need-returns
+unfolding givenLinks
+returns c = call-refused _ _ _ _ _ _ _ (number (c .before)) (c .if1 .taken)
+
+solve-links-requires : tie.Need-solve-links-requires
+solve-links-requires c κs =
+    let s = c .before .before .before .before .before .before .before .before .before .before .before .before .before .before .before .before .before .before .before .before .before .before .before .before .before .before .before .before .before in
+    links-asked (s .args .listed) _ (s .pre) _ _ _ _ _ (number (c .before .before .before .before .before .before .before .before .before .before .before)) (c .before .before .before .before .before .before .before .before .before .before .if1 .left)
+
+same-length : tie.Need-same-length
+same-length c = search needs
+
+same-length-2 : tie.Need-same-length-2
+same-length-2 c = search needs
+
+same-length-3 : tie.Need-same-length-3
+same-length-3 c = search needs
+
+same-length-4 : tie.Need-same-length-4
+same-length-4 c = search needs
+
+same-length-5 : tie.Need-same-length-5
+same-length-5 c = search needs
+
+same-length-6 : tie.Need-same-length-6
+same-length-6 c = search needs
+
+same-length-7 : tie.Need-same-length-7
+same-length-7 c = search needs
+
+same-length-8 : tie.Need-same-length-8
+same-length-8 c = search needs
+
+same-length-9 : tie.Need-same-length-9
+same-length-9 c = search needs
+
+same-length-10 : tie.Need-same-length-10
+same-length-10 c = search needs
+
+returns-2 : tie.Need-returns-2
+returns-2 c = call-done _ _ _ _ _ _ _ (number (c .before .before .before .before .before .before .before .before .before .before .before .before .before .before .before .before .before .before .before .before .before .before .before .before .before .before .before .before .before .before .before .before)) (c .before .before .before .before .before .before .before .before .before .before .before .before .before .before .before .before .before .before .before .before .before .before .before .before .before .before .before .before .before .before .before .if1 .left) (c .before .before .before .before .before .before .before .before .before .before .before .before .before .before .before .before .before .before .before .before .solve-links .ensures)
+
+pub checked-links-spec : {M : Type 1} → statement M
+checked-links-spec =
+    tie.close
+    (tie.spec
+    refuse-links-requires
+    refuse-settings-requires
+    or-requires
+    or-requires-2
+    returns
+    solve-links-requires
+    same-length
+    same-length-2
+    same-length-3
+    same-length-4
+    same-length-5
+    same-length-6
+    same-length-7
+    same-length-8
+    same-length-9
+    same-length-10
+    returns-2)

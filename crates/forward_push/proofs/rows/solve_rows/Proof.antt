@@ -1,0 +1,65 @@
+-- `forward_push::rows::solve_rows` meets its contract: the degrees, the solve and the clearing, by the laws of `Solving`. Assumes nothing.
+use denote.Ref.{now}
+use Rattle.solver.specs.States.{watchIn}
+use Rattle.graph.proofs.Given.{summing-of}
+use Rattle.calls.specs.Outcomes.{givenRows, ends}
+use Rattle.forward_push.proofs.Solving.{rows-ready, fits-still, rows-settled}
+use borrow.Author.Needs.{needs}
+use Rattle.forward_push.proofs.rows.solve_rows.Statement.{statement}
+use Rattle.forward_push.proofs.rows.solve_rows.Tie as tie
+
+sum-rows-requires : tie.Need-sum-rows-requires
+sum-rows-requires c κs = let p = c .before .before .before .before .before .before .before .before .before .before .before .before .pre in rw (p .1 .degrees-long) (summing-of (p .0))
+
+solve-settled-requires : tie.Need-solve-settled-requires
+solve-settled-requires c κs =
+    let p = c .before .before .before .before .before .before .before .before .before .before .before .before .before .before .before .before .before .before .before .before .before .before .pre in
+    let e = c .before .before .before .before .before .before .before .before .before .sum-rows .ensures in
+    (rows-ready (p .0) (p .1 .degrees-long) e, fits-still (p .0) (p .1 .degrees-long) e (p .1))
+
+clear-floats-requires : tie.Need-clear-floats-requires
+clear-floats-requires c κs = search needs
+
+same-length : tie.Need-same-length
+same-length c = search needs
+
+same-length-2 : tie.Need-same-length-2
+same-length-2 c = search needs
+
+same-length-3 : tie.Need-same-length-3
+same-length-3 c = search needs
+
+same-length-4 : tie.Need-same-length-4
+same-length-4 c = search needs
+
+same-length-5 : tie.Need-same-length-5
+same-length-5 c = search needs
+
+same-length-6 : tie.Need-same-length-6
+same-length-6 c = search needs
+
+same-length-7 : tie.Need-same-length-7
+same-length-7 c = search needs
+
+returns : tie.Need-returns
+unfolding givenRows ends
+returns c =
+    let a = c .before .before .before .before .before .before .before .before .before .before .before .before .before .before .before .before .before .before .before .before .before .before .before .before .before .before .before .before .before .before .before .before .before .before .before .before .before .before .before .args in
+    let p = c .before .before .before .before .before .before .before .before .before .before .before .before .before .before .before .before .before .before .before .before .before .before .before .before .before .before .before .before .before .before .before .before .before .before .before .before .before .before .before .pre in
+    record { leaves = rows-settled (p .0) (p .1 .degrees-long) (c .before .before .before .before .before .before .before .before .before .before .before .before .before .before .before .before .before .before .before .before .before .before .before .before .before .before .sum-rows .ensures) (a .settings) (watchIn (a .watch)) (now (a .sources)) (c .before .before .before .before .before .before .before .before .before .before .before .before .before .before .before .before .solve-settled .ensures) (c .before .before .clear-floats .ensures) }
+
+pub solve-rows-spec : {M : Type 1} → statement M
+solve-rows-spec =
+    tie.close
+    (tie.spec
+    sum-rows-requires
+    solve-settled-requires
+    clear-floats-requires
+    same-length
+    same-length-2
+    same-length-3
+    same-length-4
+    same-length-5
+    same-length-6
+    same-length-7
+    returns)

@@ -1,0 +1,165 @@
+// Forward solves of lent rows, for the public calls: what they test, and what they do, which leaves the workspace cleared.
+ghost use mathlib.Core.Path.{_≡_};
+ghost use mathlib.Core.List.{[], _∷_};
+ghost use Prim.Native.Nat.{_+_, _≤_};
+ghost use lib.ListN.{length};
+ghost use Rattle.refusals.specs.Refusals.{rowTests};
+ghost use Rattle.refusals.specs.Calls.{left};
+ghost use Rattle.graph.specs.Store.{Rowed};
+ghost use Rattle.rules.specs.Ways.{forward};
+ghost use Rattle.solver.specs.States.{watchIn};
+ghost use Rattle.calls.specs.Lent.{words, solveLent};
+ghost use Rattle.calls.specs.Outcomes.{givenRows};
+ghost use Rattle.calls.specs.Promises.{Fits, Settles, Checks};
+use calls::Counted;
+use refusals::Settings;
+use solver::Watch;
+
+// Tests 1 to 5 of a call with rows, by the lengths of what is lent.
+fn refuse_rows(
+    n: u32,
+    listed: usize,
+    starts: &[u32],
+    columns: &[u32],
+    weights: &[f64],
+    estimate: usize,
+    residual: usize,
+    degrees: usize,
+    priorities: usize,
+    nodes: usize,
+    queued: usize,
+    visited: usize,
+) -> u32
+    ensures { λ r. ⌜ r ≡ rowTests n listed ((length (now (starts .entry)), n + 1) ∷ (length (now (weights .entry)), length (now (columns .entry)))
+        ∷ (estimate, n) ∷ (residual, n) ∷ (degrees, n) ∷ (priorities, n) ∷ (nodes, n) ∷ (queued, words n) ∷ (visited, words n) ∷ [])
+        (now (starts .entry)) (now (columns .entry)) (now (weights .entry)) ⌝ }
+{
+    let lists = calls::unlike_rows(n, columns.len(), starts.len(), weights.len());
+    let unlike = calls::unlike_solve(
+        lists,
+        n,
+        estimate,
+        residual,
+        degrees,
+        priorities,
+        nodes,
+        queued,
+        visited,
+    );
+    refusals::refuse_rows(n, listed, unlike, starts, columns, weights)
+}
+
+// A forward solve of rows.
+pub fn solve_rows<'a>(
+    n: u32,
+    starts: &[u32],
+    columns: &'a [u32],
+    weights: &'a [f64],
+    sources: &[u32],
+    watch: Watch,
+    settings: Settings,
+    estimate: &mut [f64],
+    residual: &mut [f64],
+    degrees: &mut [f64],
+    priorities: &mut [f64],
+    nodes: &mut [u32],
+    queued: &mut [u64],
+    visited: &mut [u64],
+) -> Counted
+    requires { ⌜ Rowed n (now starts) (now columns) (now weights)
+        × Fits n (now sources) (solveLent (now estimate) (now residual) (now degrees) (now priorities) (now nodes) (now queued) (now visited)) ⌝ }
+    ensures { λ r. ⌜ Settles forward (givenRows n (now (starts .entry)) (now (columns .entry)) (now (weights .entry))
+        (solveLent (now (estimate .entry)) (now (residual .entry)) (now (degrees .entry)) (now (priorities .entry)) (now (nodes .entry)) (now (queued .entry)) (now (visited .entry))))
+        settings (watchIn watch) (now (sources .entry))
+        (left r (solveLent (now (estimate .exit)) (now (residual .exit)) (now (degrees .exit)) (now (priorities .exit)) (now (nodes .exit)) (now (queued .exit)) (now (visited .exit)))) ⌝ }
+{
+    graph::sum_rows(starts, weights, degrees);
+    let counts = calls::solve_settled(
+        settings,
+        false,
+        watch,
+        sources,
+        starts,
+        columns,
+        columns,
+        weights,
+        weights,
+        degrees,
+        degrees,
+        estimate,
+        residual,
+        priorities,
+        nodes,
+        queued,
+        visited,
+    );
+    numbers::clear_floats(degrees);
+    counts
+}
+
+// A forward call with rows: refused with the first number that applies, or solved. `listed` is how many sources the
+// call lists, and `further` the number of the tests after those of the settings.
+pub fn checked_rows<'a>(
+    n: u32,
+    starts: &[u32],
+    columns: &'a [u32],
+    weights: &'a [f64],
+    sources: &[u32],
+    listed: usize,
+    watch: Watch,
+    settings: Settings,
+    further: u32,
+    estimate: &mut [f64],
+    residual: &mut [f64],
+    degrees: &mut [f64],
+    priorities: &mut [f64],
+    nodes: &mut [u32],
+    queued: &mut [u64],
+    visited: &mut [u64],
+) -> Counted
+    requires { ⌜ (listed ≤ 65536 → length (now sources) ≤ 65536) ⌝ }
+    ensures { λ r. ⌜ Checks forward (givenRows n (now (starts .entry)) (now (columns .entry)) (now (weights .entry))
+        (solveLent (now (estimate .entry)) (now (residual .entry)) (now (degrees .entry)) (now (priorities .entry)) (now (nodes .entry)) (now (queued .entry)) (now (visited .entry))))
+        settings (watchIn watch) (now (sources .entry)) listed further
+        (left r (solveLent (now (estimate .exit)) (now (residual .exit)) (now (degrees .exit)) (now (priorities .exit)) (now (nodes .exit)) (now (queued .exit)) (now (visited .exit)))) ⌝ }
+{
+    let tests = refuse_rows(
+        n,
+        listed,
+        starts,
+        columns,
+        weights,
+        estimate.len(),
+        residual.len(),
+        degrees.len(),
+        priorities.len(),
+        nodes.len(),
+        queued.len(),
+        visited.len(),
+    );
+    let later = refusals::or(refusals::refuse_settings(settings), further);
+    let refusal = refusals::or(tests, later);
+    if refusal != 0 {
+        return Counted {
+            refusal,
+            pushes: 0,
+            visited: 0,
+        };
+    }
+    solve_rows(
+        n,
+        starts,
+        columns,
+        weights,
+        sources,
+        watch,
+        settings,
+        estimate,
+        residual,
+        degrees,
+        priorities,
+        nodes,
+        queued,
+        visited,
+    )
+}

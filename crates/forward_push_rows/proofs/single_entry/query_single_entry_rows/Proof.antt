@@ -1,0 +1,59 @@
+-- `forward_push_rows::query_single_entry_rows` meets its contract: what `checked_rows` leaves, and the score in it. Assumes nothing.
+use mathlib.Core.Path.{refl}
+use native.Mathlib.Omega.{arith}
+use Rattle.solver.specs.States.{watchIn}
+use Rattle.calls.proofs.Left.{no-further, query-answered}
+use Rattle.forward_push.proofs.After.{rows-estimate}
+use borrow.Author.Needs.{needs}
+use Rattle.forward_push_rows.proofs.single_entry.query_single_entry_rows.Statement.{statement}
+use Rattle.forward_push_rows.proofs.single_entry.query_single_entry_rows.Tie as tie
+
+slice-aggregate-checked-rows : tie.Need-slice-aggregate-checked-rows
+slice-aggregate-checked-rows c = search needs
+
+checked-rows-requires : tie.Need-checked-rows-requires
+checked-rows-requires c κs = λ _. omega arith
+
+answered-requires : tie.Need-answered-requires
+answered-requires c κs = search needs
+
+same-length : tie.Need-same-length
+same-length c = search needs
+
+same-length-2 : tie.Need-same-length-2
+same-length-2 c = search needs
+
+same-length-3 : tie.Need-same-length-3
+same-length-3 c = search needs
+
+same-length-4 : tie.Need-same-length-4
+same-length-4 c = search needs
+
+same-length-5 : tie.Need-same-length-5
+same-length-5 c = search needs
+
+same-length-6 : tie.Need-same-length-6
+same-length-6 c = search needs
+
+same-length-7 : tie.Need-same-length-7
+same-length-7 c = search needs
+
+returns : tie.Need-returns
+unfolding watchIn
+returns c = query-answered _ _ _ _ (λ b. b .estimate) (rows-estimate _ _ _ _ _ _) (no-further _ _ _ _ _ _ _ refl (c .before .before .before .before .before .before .before .before .before .before .before .before .before .before .before .before .checked-rows .ensures)) (c .answered .ensures)
+
+pub query-single-entry-rows-spec : {M : Type 1} → statement M
+query-single-entry-rows-spec =
+    tie.close
+    (tie.spec
+    slice-aggregate-checked-rows
+    checked-rows-requires
+    answered-requires
+    same-length
+    same-length-2
+    same-length-3
+    same-length-4
+    same-length-5
+    same-length-6
+    same-length-7
+    returns)

@@ -1,0 +1,62 @@
+-- `forward_push_rows::solve_with_target_rows` meets its contract: what `checked_rows` leaves, and the norm. Assumes nothing.
+use native.Mathlib.Omega.{arith}
+use Rattle.solver.specs.States.{watchIn}
+use Rattle.calls.proofs.Left.{with-further, solve-measured}
+use Rattle.forward_push.proofs.After.{rows-residual}
+use borrow.Author.Needs.{needs}
+use Rattle.forward_push_rows.proofs.with_target.solve_with_target_rows.Statement.{statement}
+use Rattle.forward_push_rows.proofs.with_target.solve_with_target_rows.Tie as tie
+
+refuse-precision-requires : tie.Need-refuse-precision-requires
+refuse-precision-requires c κs = search needs
+
+slice-aggregate-checked-rows : tie.Need-slice-aggregate-checked-rows
+slice-aggregate-checked-rows c = search needs
+
+checked-rows-requires : tie.Need-checked-rows-requires
+checked-rows-requires c κs = λ _. omega arith
+
+measured-requires : tie.Need-measured-requires
+measured-requires c κs = search needs
+
+same-length : tie.Need-same-length
+same-length c = search needs
+
+same-length-2 : tie.Need-same-length-2
+same-length-2 c = search needs
+
+same-length-3 : tie.Need-same-length-3
+same-length-3 c = search needs
+
+same-length-4 : tie.Need-same-length-4
+same-length-4 c = search needs
+
+same-length-5 : tie.Need-same-length-5
+same-length-5 c = search needs
+
+same-length-6 : tie.Need-same-length-6
+same-length-6 c = search needs
+
+same-length-7 : tie.Need-same-length-7
+same-length-7 c = search needs
+
+returns : tie.Need-returns
+unfolding watchIn
+returns c = solve-measured _ _ _ (λ b. b .residual) (rows-residual _ _ _ _ _ _) (with-further _ _ _ _ _ _ _ (c .before .before .before .before .before .before .before .before .before .before .before .before .before .before .before .before .before .before .before .before .before .before .before .before .before .refuse-precision .ensures) (c .before .before .before .before .before .before .before .before .before .before .before .before .before .before .before .before .checked-rows .ensures)) (c .measured .ensures)
+
+pub solve-with-target-rows-spec : {M : Type 1} → statement M
+solve-with-target-rows-spec =
+    tie.close
+    (tie.spec
+    refuse-precision-requires
+    slice-aggregate-checked-rows
+    checked-rows-requires
+    measured-requires
+    same-length
+    same-length-2
+    same-length-3
+    same-length-4
+    same-length-5
+    same-length-6
+    same-length-7
+    returns)

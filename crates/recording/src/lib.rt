@@ -1,0 +1,29 @@
+// What the programs share that replay a recording of the Rust: numbers and floats of its bytes, which
+// are little-endian.
+ghost use Prim.Native.Nat.{_+_, _≤_};
+ghost use lib.ListN.{length};
+
+fn wide(byte: u8) -> u64 {
+    byte as u64
+}
+
+// The number in `width` bytes from `at` on.
+pub fn number(bytes: &[u8], at: usize, width: usize) -> u64
+    requires { ⌜ at + width ≤ length (now bytes) ⌝ }
+{
+    let mut n = 0;
+    let mut k = width;
+    while k > 0 {
+        k -= 1;
+        n = (n << 8) | wide(bytes[at + k]);
+    }
+    n
+}
+
+// The float of a bit pattern, and a NaN for each of the patterns of a NaN.
+pub fn float(bits: u64) -> f64 {
+    if bits % 0x8000_0000_0000_0000 <= 0x7ff0_0000_0000_0000 {
+        return f64::from_bits(bits);
+    }
+    0.0 / 0.0
+}

@@ -1,0 +1,65 @@
+//! A buffer that a call was lent to write, and how its contents differ from what they should be.
+use super::entry::Kind;
+use super::outcome::Contents;
+use runs::comparison::same;
+use runs::lent::{Lent, Word};
+use Buffer::{Real, Whole, Wide};
+
+pub enum Buffer {
+    Whole(Lent<u32>),
+    Wide(Lent<u64>),
+    Real(Lent<f64>),
+}
+
+impl Buffer {
+    pub fn patterned(kind: Kind, length: usize) -> Self {
+        match kind {
+            Kind::Whole => Whole(Lent::patterned(length)),
+            Kind::Wide => Wide(Lent::patterned(length)),
+            Kind::Real => Real(Lent::patterned(length)),
+        }
+    }
+
+    /// Where it is not as it was before the call.
+    pub fn unlike_before(&self) -> Option<String> {
+        let (guarded, altered) = match self {
+            Whole(lent) => (lent.guarded(), lent.altered()),
+            Wide(lent) => (lent.guarded(), lent.altered()),
+            Real(lent) => (lent.guarded(), lent.altered()),
+        };
+        outside(guarded).or_else(|| altered.map(|place| format!("[{place}] was altered by a refusal")))
+    }
+
+    /// Where it does not hold what it should: contents of an answer, or else zeros.
+    pub fn unlike(&self, contents: Option<&Contents>) -> Option<String> {
+        match (self, contents) {
+            (Whole(lent), Some(Contents::Whole(right))) => outside(lent.guarded()).or_else(|| {
+                let place = lent.differs(right)?;
+                Some(format!("[{place}] is {}, where {} is right", lent.slice()[place], right[place]))
+            }),
+            (Real(lent), Some(Contents::Real(right))) => {
+                outside(lent.guarded()).or_else(|| unlike_numbers(lent, right))
+            }
+            (Whole(lent), None) => not_cleared(lent),
+            (Wide(lent), None) => not_cleared(lent),
+            (Real(lent), None) => not_cleared(lent),
+            _ => unreachable!("the contents are made for the entry"),
+        }
+    }
+}
+
+/// Where a buffer holds another number than it should; one NaN counts as any other.
+pub fn unlike_numbers(lent: &Lent<f64>, right: &[f64]) -> Option<String> {
+    let place = lent.unlike(right, same)?;
+    let (a, b) = (lent.slice()[place], right[place]);
+    Some(format!("[{place}] is {:016x} ({a:?}), where {:016x} ({b:?}) is right", a.to_bits(), b.to_bits()))
+}
+
+fn not_cleared<T: Word>(lent: &Lent<T>) -> Option<String> {
+    let nonzero = || lent.nonzero().map(|place| format!("[{place}] is not zero, in workspace"));
+    outside(lent.guarded()).or_else(nonzero)
+}
+
+pub fn outside(guarded: bool) -> Option<String> {
+    (!guarded).then(|| ": a word outside of it was written".to_string())
+}

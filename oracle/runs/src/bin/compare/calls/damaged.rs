@@ -1,0 +1,141 @@
+//! Calls that break the conditions of docs/RULES.md: each refusal number, each two at once, and several.
+use super::call::Call;
+use super::entry::{Entry, Question};
+use super::refusal::applies;
+use super::sound::{
+    buffers, sound, with_length, with_links, with_nodes, MOST_LINKS, MOST_NODES, MOST_PUSHES, MOST_SOURCES,
+};
+use runs::random::Random;
+
+/// What makes a sound call break the condition of `number`. Damages of lower numbers go first: they set the sizes.
+pub struct Damage {
+    number: u32,
+    /// Whether it makes a list of more links than are allowed: such calls take long.
+    long: bool,
+    act: Box<dyn Fn(&mut Call)>,
+}
+
+/// Every damage of the small sound call that is tried in pairs.
+pub fn damages(entry: Entry) -> Vec<Damage> {
+    // Two past the limit, so that a list made one shorter is still past it.
+    let long = damage(2, |call| *call = with_links(call.clone(), MOST_LINKS + 2));
+    let mut found = of_sizes(entry);
+    found.push(Damage { long: true, ..long });
+    found.extend(of_graphs(entry));
+    found.extend(of_wishes(entry));
+    found.sort_by_key(|damage| damage.number);
+    found
+}
+
+fn damage(number: u32, act: impl Fn(&mut Call) + 'static) -> Damage {
+    Damage { number, long: false, act: Box::new(act) }
+}
+
+/// Damages of the numbers 1, 2 and 3.
+fn of_sizes(entry: Entry) -> Vec<Damage> {
+    let mut found = vec![
+        damage(1, |call| *call = with_nodes(call.clone(), MOST_NODES + 1)),
+        damage(1, |call| call.nodes = u32::MAX),
+    ];
+    if entry.question() == Some(Question::Multi) {
+        found.push(damage(2, |call| call.wish.sources.resize(MOST_SOURCES + 1, 1)));
+    }
+    for buffer in 0..buffers(entry) {
+        for by in [-1, 1] {
+            found.push(damage(3, move |call| *call = with_length(call.clone(), buffer, by)));
+        }
+    }
+    found
+}
+
+/// Damages of the numbers 4 and 5.
+fn of_graphs(entry: Entry) -> Vec<Damage> {
+    let mut found = Vec::new();
+    if entry.takes_rows() {
+        found.push(damage(4, |call| call.first[0] = 1));
+        found.push(damage(4, |call| call.first[1] = call.first[2] + 1));
+        found.push(damage(4, |call| call.first[1] = u32::MAX));
+        found.push(damage(4, |call| *call.first.last_mut().expect("starts") = call.second.len() as u32 - 1));
+        found.push(damage(4, |call| *call.first.last_mut().expect("starts") = call.second.len() as u32 + 1));
+        found.push(damage(4, |call| *call.first.last_mut().expect("starts") = u32::MAX));
+        found.push(damage(4, |call| call.second[0] = call.nodes));
+        found.push(damage(4, |call| *call.second.last_mut().expect("columns") = call.nodes));
+        found.push(damage(4, |call| *call.second.last_mut().expect("columns") = u32::MAX));
+    }
+    for weight in [1_048_576.0000000002, -5e-324, f64::NAN] {
+        found.push(damage(5, move |call| call.weights[0] = weight));
+        found.push(damage(5, move |call| *call.weights.last_mut().expect("weights") = weight));
+    }
+    found
+}
+
+/// Damages of the numbers 6 and 7.
+fn of_wishes(entry: Entry) -> Vec<Damage> {
+    let mut found = Vec::new();
+    if entry.question().is_some() {
+        for alpha in [-5e-324, 1.0000000000000002, f64::NAN] {
+            found.push(damage(6, move |call| call.wish.settings.alpha = alpha));
+        }
+        for number in [-5e-324, f64::INFINITY, f64::NAN] {
+            found.push(damage(6, move |call| call.wish.settings.epsilon = number));
+            found.push(damage(6, move |call| call.wish.settings.queue_threshold = number));
+        }
+        for pushes in [MOST_PUSHES + 1, u64::MAX] {
+            found.push(damage(6, move |call| call.wish.settings.max_pushes = pushes));
+        }
+    }
+    if entry.question() == Some(Question::Watched) {
+        for precision in [-5e-324, f64::INFINITY, f64::NAN] {
+            found.push(damage(7, move |call| call.wish.precision = precision));
+        }
+    }
+    found
+}
+
+/// Each damage by itself.
+pub fn singles(entry: Entry) -> Vec<Call> {
+    let all = damages(entry);
+    let found: Vec<Call> = all.iter().map(|damage| damaged(entry, [damage])).collect();
+    for (call, damage) in found.iter().zip(&all) {
+        assert!(applies(damage.number, call), "a damage breaks the condition of its number");
+    }
+    found
+}
+
+/// Each two damages of different numbers, one after the other. With too many links, where `all_long` is not asked, only
+/// one damage of each other number.
+pub fn pairs(entry: Entry, all_long: bool) -> impl Iterator<Item = Call> {
+    let all = damages(entry);
+    let is_first = |place: usize| place == 0 || all[place - 1].number != all[place].number;
+    let mut places = Vec::new();
+    for first in 0..all.len() {
+        for second in first + 1..all.len() {
+            let long = all[first].long && !is_first(second) || all[second].long && !is_first(first);
+            if all[second].number != all[first].number && (all_long || !long) {
+                places.push((first, second));
+            }
+        }
+    }
+    places.into_iter().map(move |(first, second)| {
+        let call = damaged(entry, [&all[first], &all[second]]);
+        let both = [first, second].iter().all(|&place| applies(all[place].number, &call));
+        assert!(both, "two damages break the conditions of both their numbers");
+        call
+    })
+}
+
+/// Several random damages, of which any number may be the same, and of any number on; too many links are left to the
+/// pairs.
+pub fn several(random: &mut Random, entry: Entry, all: &[Damage]) -> Call {
+    let least = [1, 2, 2, 2, 4, 4, 5, 6][random.below(8) as usize];
+    let chosen = all.iter().filter(|damage| !damage.long && damage.number >= least && random.below(12) == 0);
+    damaged(entry, chosen.collect::<Vec<_>>())
+}
+
+fn damaged<'a>(entry: Entry, damages: impl IntoIterator<Item = &'a Damage>) -> Call {
+    let mut call = sound(entry);
+    for damage in damages {
+        (damage.act)(&mut call);
+    }
+    call
+}

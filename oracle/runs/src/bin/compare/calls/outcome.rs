@@ -1,0 +1,51 @@
+//! What a call comes to: what it returns, and what it leaves in its buffers.
+use super::entry::{Entry, Question};
+use runs::comparison::same;
+use runs::entries::{Built, Scored, Solved};
+
+/// What a call is to come to. A refusal leaves every buffer as it was.
+pub enum Outcome {
+    Refused(u32),
+    /// The contents of the answer's buffers. The others are workspace, and all zero.
+    Done { returned: Returned, answer: Vec<Contents> },
+}
+
+/// What a buffer of an answer holds.
+pub enum Contents {
+    Whole(Vec<u32>),
+    Real(Vec<f64>),
+}
+
+/// What a call returns.
+#[derive(Clone, Copy, Debug)]
+pub enum Returned {
+    Number(u32),
+    Built(Built),
+    Solved(Solved),
+    Scored(Scored),
+}
+
+impl Returned {
+    /// What the entry returns with a refusal.
+    pub fn refused(entry: Entry, refusal: u32) -> Self {
+        match entry {
+            Entry::FromEdges => Self::Built(Built { refusal, kept: 0 }),
+            Entry::FromMatrix | Entry::Transpose | Entry::RowSums => Self::Number(refusal),
+            Entry::Forward(Question::Query, _) => Self::Scored(Scored { refusal, score: 0.0 }),
+            Entry::Forward(..) => {
+                Self::Solved(Solved { refusal, push_count: 0, nodes_visited: 0, residual_norm: 0.0 })
+            }
+        }
+    }
+
+    pub fn same(self, other: Self) -> bool {
+        let counts = |s: Solved| (s.refusal, s.push_count, s.nodes_visited);
+        match (self, other) {
+            (Self::Number(a), Self::Number(b)) => a == b,
+            (Self::Built(a), Self::Built(b)) => a == b,
+            (Self::Solved(a), Self::Solved(b)) => counts(a) == counts(b) && same(a.residual_norm, b.residual_norm),
+            (Self::Scored(a), Self::Scored(b)) => a.refusal == b.refusal && same(a.score, b.score),
+            _ => unreachable!("what is returned is made for the entry"),
+        }
+    }
+}

@@ -1,0 +1,180 @@
+//! What a solve is given beside its graph: at the limits, a few values of each, or drawn.
+use super::call::{Call, Wish};
+use super::entry::{Entry, Question};
+use super::refusal::refusal;
+use super::sound::{sound, MOST_PUSHES};
+use runs::entries::Settings;
+use runs::random::Random;
+
+/// Every alpha at a limit or next to one, and every kind that is refused.
+pub const ALPHAS: [f64; 18] = [
+    0.0,
+    -0.0,
+    5e-324,
+    -5e-324,
+    -f64::MIN_POSITIVE,
+    0.15,
+    0.9999999999999999,
+    1.0,
+    1.0000000000000002,
+    2.0,
+    -1.0,
+    f64::MAX,
+    f64::MIN,
+    f64::INFINITY,
+    f64::NEG_INFINITY,
+    f64::NAN,
+    f64::from_bits(0x7ff0_0000_0000_0001),
+    f64::from_bits(0xfff8_0000_0000_0000),
+];
+
+/// Likewise every epsilon, threshold and precision.
+const NUMBERS: [f64; 15] = [
+    0.0,
+    -0.0,
+    5e-324,
+    -5e-324,
+    f64::MIN_POSITIVE,
+    -f64::MIN_POSITIVE,
+    1.0,
+    -1.0,
+    f64::MAX,
+    f64::MIN,
+    f64::INFINITY,
+    f64::NEG_INFINITY,
+    f64::NAN,
+    f64::from_bits(0x7ff0_0000_0000_0001),
+    f64::from_bits(0xfff8_0000_0000_0000),
+];
+
+const PUSHES: [u64; 10] = [
+    0,
+    1,
+    2,
+    MOST_PUSHES - 1,
+    MOST_PUSHES,
+    MOST_PUSHES + 1,
+    u32::MAX as u64,
+    1 << 32,
+    1 << 63,
+    u64::MAX,
+];
+
+/// What changes one part of a wish.
+type Change = Box<dyn Fn(&mut Wish)>;
+
+/// Every number at a limit, in each place of the small call and in each two.
+pub fn limits(entry: Entry) -> Vec<Call> {
+    let mut parts: Vec<Vec<Change>> = vec![
+        ALPHAS.map(|alpha| Box::new(move |wish: &mut Wish| wish.settings.alpha = alpha) as Change).into(),
+        NUMBERS.map(|number| Box::new(move |wish: &mut Wish| wish.settings.epsilon = number) as Change).into(),
+        NUMBERS.map(|number| Box::new(move |wish: &mut Wish| wish.settings.queue_threshold = number) as Change).into(),
+        PUSHES.map(|pushes| Box::new(move |wish: &mut Wish| wish.settings.max_pushes = pushes) as Change).into(),
+    ];
+    if entry.question() == Some(Question::Watched) {
+        parts.push(NUMBERS.map(|number| Box::new(move |wish: &mut Wish| wish.precision = number) as Change).into());
+    }
+    let mut found = Vec::new();
+    for (place, part) in parts.iter().enumerate() {
+        for change in part {
+            found.push(changed(entry, &[change]));
+            let others = parts[place + 1..].iter().flatten();
+            found.extend(others.map(|other| changed(entry, &[change, other])));
+        }
+    }
+    found.retain(ends);
+    found
+}
+
+fn changed(entry: Entry, changes: &[&Change]) -> Call {
+    let mut call = sound(entry);
+    changes.iter().for_each(|change| change(&mut call.wish));
+    call
+}
+
+/// Whether the call is over soon: a thousand million pushes are too many where alpha takes nothing.
+fn ends(call: &Call) -> bool {
+    let settings = &call.wish.settings;
+    settings.max_pushes <= 10_000 || settings.alpha >= 0.1 || refusal(call) != 0
+}
+
+/// Settings of a few values each, all of them.
+pub fn grid() -> Vec<Settings> {
+    let mut found = Vec::new();
+    for alpha in [0.0, -0.0, 0.15, 0.5, 1.0] {
+        for epsilon in [0.0, 1e-6, 0.25] {
+            for queue_threshold in [0.0, 1e-8, 0.25, 2.0] {
+                for max_pushes in [0, 1, 2, 10, 47] {
+                    for adaptive_threshold in [false, true] {
+                        found.push(Settings { alpha, epsilon, queue_threshold, max_pushes, adaptive_threshold });
+                    }
+                }
+            }
+        }
+    }
+    found
+}
+
+pub fn one_of<T: Copy>(random: &mut Random, choices: &[T]) -> T {
+    choices[random.below(choices.len() as u64) as usize]
+}
+
+/// A wish for the graph of the call, of any settings.
+pub fn drawn(random: &mut Random, call: &Call) -> Wish {
+    let settings = settings(random);
+    with_settings(random, call, settings)
+}
+
+/// A wish for the graph of the call, with these settings; as many pushes as do not take too long.
+pub fn with_settings(random: &mut Random, call: &Call, mut settings: Settings) -> Wish {
+    const STEPS: u64 = 4_000_000;
+    settings.max_pushes = settings.max_pushes.min(STEPS / longest_row(call).max(1));
+    let many = [0, 1, 2, 3, random.below(10), random.below(100)][random.below(6) as usize];
+    let unit = random.unit();
+    Wish {
+        source: node(random, call),
+        sources: (0..many).map(|_| node(random, call)).collect(),
+        target: node(random, call),
+        precision: one_of(random, &[0.0, -0.0, 5e-324, 1e-9, 1e-3 * unit, 0.1 * unit, unit, 1.0, f64::MAX]),
+        settings,
+    }
+}
+
+fn settings(random: &mut Random) -> Settings {
+    let unit = random.unit();
+    let (hundred, thousands) = (random.below(100), random.below(5_000));
+    let few = one_of(random, &[0, 1, 2, 10, hundred]);
+    let many = one_of(random, &[999, 1_000, 1_001, 1_999, 2_000, 2_001, thousands]);
+    Settings {
+        alpha: one_of(random, &[0.0, -0.0, 0.15, 0.15, 0.5, unit, 0.01 * unit, 1.0]),
+        epsilon: one_of(random, &[0.0, 0.0, -0.0, 1e-300, 1e-6, 1e-3 * unit, 0.25]),
+        queue_threshold: one_of(random, &[0.0, 0.0, -0.0, 1e-300, 1e-8, 1e-5, 1e-3 * unit, 0.25, 2.0]),
+        max_pushes: if random.below(8) == 0 { many } else { few },
+        adaptive_threshold: random.below(2) == 0,
+    }
+}
+
+/// A node, the end of a link as often as any; now and then a number that is none.
+fn node(random: &mut Random, call: &Call) -> u32 {
+    let nodes = u64::from(call.nodes);
+    let out_of_range = [nodes, nodes + random.below(70), u64::from(u32::MAX)];
+    match random.below(16) {
+        0 => one_of(random, &out_of_range) as u32,
+        1..=8 if !call.second.is_empty() => one_of(random, &call.second),
+        _ if nodes > 0 => random.below(nodes) as u32,
+        _ => 0,
+    }
+}
+
+/// How many links the longest row has: a push goes through all of them.
+fn longest_row(call: &Call) -> u64 {
+    if call.entry.takes_rows() {
+        let lengths = call.first.windows(2).map(|pair| u64::from(pair[1].saturating_sub(pair[0])));
+        return lengths.max().unwrap_or(0);
+    }
+    let mut lengths = vec![0; call.nodes as usize];
+    for &from in call.first.iter().filter(|&&from| from < call.nodes) {
+        lengths[from as usize] += 1;
+    }
+    lengths.into_iter().max().unwrap_or(0)
+}

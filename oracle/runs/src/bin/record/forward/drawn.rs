@@ -1,0 +1,214 @@
+//! Small graphs, settings, sources and targets, drawn so that each kind that the push rules tell apart comes often.
+use super::call::{Call, Entry};
+use crate::one_of;
+use repaired::solver::forward_push::ForwardPushConfig;
+use runs::random::Random;
+
+const MOST_NODES: u64 = 12;
+const MOST_LINKS: usize = 24;
+
+/// A node, and one time in 16 a number that is none.
+fn node(random: &mut Random, n: u32) -> u32 {
+    if n == 0 || random.below(16) == 0 {
+        return one_of(random, &[n, n + 1, n + 63, 65_535]);
+    }
+    random.below(u64::from(n)) as u32
+}
+
+/// How the weights of one list are drawn.
+#[derive(Clone, Copy)]
+enum Weights {
+    Ones,
+    Tenths,
+    Units,
+    Specials,
+    SpecialsAmongUnits,
+    EverySize,
+}
+
+const WEIGHTS: [Weights; 7] = [
+    Weights::Ones,
+    Weights::Ones,
+    Weights::Tenths,
+    Weights::Units,
+    Weights::Specials,
+    Weights::SpecialsAmongUnits,
+    Weights::EverySize,
+];
+
+fn special(random: &mut Random) -> f64 {
+    let subnormal = f64::from_bits(random.next() >> 12);
+    one_of(random, &[0.0, 0.0, -0.0, 5e-324, subnormal, f64::MIN_POSITIVE, 1_048_575.9999999999, 1_048_576.0])
+}
+
+impl Weights {
+    fn draw(self, random: &mut Random) -> f64 {
+        match self {
+            Weights::Ones => 1.0,
+            Weights::Tenths => (1 + random.below(20)) as f64 / 10.0,
+            Weights::Specials => special(random),
+            Weights::SpecialsAmongUnits if random.below(3) == 0 => special(random),
+            Weights::Units | Weights::SpecialsAmongUnits => random.unit(),
+            Weights::EverySize => f64::from_bits(random.below(1_048_576f64.to_bits())),
+        }
+    }
+}
+
+/// The ends of the links of a graph with a plan.
+fn planned(random: &mut Random, n: u32) -> Vec<(u32, u32)> {
+    let all = || 0..n;
+    match random.below(8) {
+        0 => all().map(|v| (0, v)).collect(),
+        1 => all().map(|v| (v, 0)).collect(),
+        2 => all().skip(1).map(|v| (v - 1, v)).collect(),
+        3 => all().map(|v| (v, (v + 1) % n)).collect(),
+        4 => all().flat_map(|v| [(v, n / 2), (n / 2, v)]).collect(),
+        5 => all().map(|v| (v, v)).collect(),
+        6 => all().map(|_| (n - 1, 0)).collect(),
+        _ => all().take(4).flat_map(|v| all().take(4).map(move |u| (v, u))).collect(),
+    }
+}
+
+/// The ends of random links: repeats and links to oneself are common where few nodes are drawn from.
+fn unplanned(random: &mut Random, n: u32) -> Vec<(u32, u32)> {
+    let drawn = 1 + random.below(u64::from(n.max(1))) as u32;
+    let whole = random.below(2) == 0;
+    let end = |random: &mut Random| if whole { node(random, n) } else { random.below(u64::from(drawn)) as u32 };
+    (0..random.below(MOST_LINKS as u64 + 1)).map(|_| (end(random), end(random))).collect()
+}
+
+pub fn links(random: &mut Random, n: u32) -> Vec<(u32, u32, f64)> {
+    let mut ends = if n > 0 && random.below(3) == 0 { planned(random, n) } else { unplanned(random, n) };
+    ends.truncate(MOST_LINKS);
+    let weights = one_of(random, &WEIGHTS);
+    ends.into_iter().map(|(from, to)| (from, to, weights.draw(random))).collect()
+}
+
+/// Settings of several kinds: by which a solve comes far, by which residuals meet epsilon and the threshold exactly, by
+/// which nothing but zeros is left to move, and any that are sound.
+pub fn settings(random: &mut Random) -> ForwardPushConfig {
+    let (unit, adaptive_threshold) = (random.unit(), random.below(2) == 0);
+    let (alpha, epsilon, queue_threshold, max_pushes) = match random.below(5) {
+        0 | 1 => (
+            one_of(random, &[0.01, 0.15, 0.15, 0.5, unit]),
+            one_of(random, &[0.0, 1e-9, 1e-6, 1e-3]),
+            one_of(random, &[0.0, 1e-12, 1e-8, 1e-6, 1e-3]),
+            one_of(random, &[7, 20, 40, 80, 160, 320]),
+        ),
+        2 => (
+            0.5,
+            one_of(random, &[0.5, 0.25, 0.125, 0.0625]),
+            one_of(random, &[0.0, 0.25, 0.125, 0.0625]),
+            one_of(random, &[2, 3, 20]),
+        ),
+        3 => (
+            one_of(random, &[0.0, -0.0, 1.0, 1.0]),
+            one_of(random, &[0.0, -0.0]),
+            one_of(random, &[0.0, -0.0]),
+            one_of(random, &[3, 20, 50]),
+        ),
+        _ => (
+            one_of(random, &[0.0, -0.0, 5e-324, 1e-3, unit, 0.85, 1.0]),
+            one_of(random, &[0.0, -0.0, 1e-310, 0.01, 0.1 * unit, 0.25, 0.75]),
+            one_of(random, &[0.0, -0.0, 5e-324, 0.01, 0.1 * unit, 0.25, 1.0, 2.0]),
+            one_of(random, &[0, 1, 2, 3, 50, 640]),
+        ),
+    };
+    ForwardPushConfig { alpha, epsilon, max_pushes, queue_threshold, adaptive_threshold }
+}
+
+/// An end of a link, and one time in 4 any node.
+fn end(random: &mut Random, n: u32, links: &[(u32, u32, f64)], which: impl Fn(&(u32, u32, f64)) -> u32) -> u32 {
+    if links.is_empty() || random.below(4) == 0 {
+        return node(random, n);
+    }
+    which(&links[random.below(links.len() as u64) as usize])
+}
+
+/// A sound call of a solve: of a graph of no nodes now and then, and most often of several.
+pub fn solve(random: &mut Random, entry: Entry) -> Call {
+    let n = if random.below(20) == 0 { 0 } else { 1 + random.below(MOST_NODES) as u32 };
+    let links = links(random, n);
+    let settings = settings(random);
+    let source = end(random, n, &links, |link| link.0);
+    let target = if random.below(4) == 0 { source } else { end(random, n, &links, |link| link.1) };
+    let count = if entry.takes_sources() { random.below(9) } else { 0 };
+    let sources: Vec<u32> = (0..count).map(|_| end(random, n, &links, |link| link.0)).collect();
+    let precision = if entry.watches() {
+        one_of(random, &[0.0, -0.0, 5e-324, 1e-9, 1e-6, 1e-3, 0.05, 0.125, 0.25, 0.5, 2.0])
+    } else {
+        0.0
+    };
+    Call::on_links(entry, n, &links, settings).from(source, target, &sources, precision)
+}
+
+/// A sound extrapolation: from the vectors of a solve, or from numbers of every size and both signs.
+pub fn extrapolation(random: &mut Random) -> Call {
+    let settings = settings(random);
+    if random.below(2) == 0 {
+        let solved = solve(random, Entry::SingleSourceLinks).answer();
+        return Call::on_vectors(&solved.estimate, &solved.residual, settings);
+    }
+    let n = random.below(MOST_NODES + 1);
+    let mut vector = || -> Vec<f64> {
+        let number = |_| match random.below(3) {
+            0 => one_of(random, &[0.0, -0.0, 5e-324, -f64::MIN_POSITIVE, f64::MAX, -f64::MAX, 1.0]),
+            1 => random.unit() - 0.5,
+            _ => f64::from_bits(random.below(f64::INFINITY.to_bits())) * one_of(random, &[1.0, -1.0]),
+        };
+        (0..n).map(number).collect()
+    };
+    let (estimate, residual) = (vector(), vector());
+    Call::on_vectors(&estimate, &residual, settings)
+}
+
+/// A sound solve along a chain that watches a node of it: the precision is what the node's estimate becomes at its push,
+/// where the solve goes on, or half of it, where it stops.
+pub fn watched(random: &mut Random, entry: Entry) -> Call {
+    let n = 2 + random.below(8) as u32;
+    let links: Vec<_> = (1..n).map(|v| (v - 1, v, 1.0)).collect();
+    let settings = ForwardPushConfig {
+        alpha: 0.5,
+        epsilon: 0.0,
+        max_pushes: 20,
+        queue_threshold: one_of(random, &[0.0, 1e-6]),
+        adaptive_threshold: false,
+    };
+    let target = random.below(u64::from(n) - 1) as u32;
+    let precision = one_of(random, &[1.0, 0.5]) / f64::from(2u32 << target);
+    Call::on_links(entry, n, &links, settings).from(0, target, &[], precision)
+}
+
+/// A sound solve up to the thousandth push or the second thousandth, where the threshold falls if it adapts. Along a ring
+/// the residual shrinks by the same factor at each push, so a threshold can be set just below or above what is left there.
+pub fn long(random: &mut Random, entry: Entry, adaptive: bool) -> Call {
+    let n = 1 + random.below(6) as u32;
+    let links: Vec<_> = (0..n).map(|v| (v, (v + 1) % n, 1.0)).collect();
+    let alpha = 1e-3 * (0.5 + random.unit());
+    let near = one_of(random, &[0.9999, 0.9999, 1.0001]);
+    let left = |pushes: u32| (0..pushes).fold(near, |left, _| left * (1.0 - alpha));
+    let threshold = one_of(random, &[left(1_000), left(1_000), left(2_000), left(2_000) / 0.9]);
+    let settings = ForwardPushConfig {
+        alpha,
+        epsilon: 0.0,
+        max_pushes: 2_500,
+        queue_threshold: threshold,
+        adaptive_threshold: adaptive,
+    };
+    let (source, target) = (random.below(u64::from(n)) as u32, random.below(u64::from(n)) as u32);
+    let precision = one_of(random, &[1e-3, 1.0]);
+    Call::on_links(entry, n, &links, settings).from(source, target, &[source], precision)
+}
+
+/// A threshold at the floor below which it does not adapt, and the next one up, with a residual that meets it at the
+/// thousandth push.
+pub fn floor(entry: Entry, threshold: f64) -> Call {
+    let settings = ForwardPushConfig {
+        alpha: 0.02725,
+        epsilon: 0.0,
+        max_pushes: 2_500,
+        queue_threshold: threshold,
+        adaptive_threshold: true,
+    };
+    Call::on_links(entry, 1, &[(0, 0, 1.0)], settings).from(0, 0, &[0], 2.0)
+}

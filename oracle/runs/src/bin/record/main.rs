@@ -1,0 +1,26 @@
+//! Records what the repaired Rust answers, for programs of Rattle to replay through the proved library. A recording is
+//! seeded, so it comes out the same every time.
+//!
+//! `record queue > crates/queue_check/stdin`, `record forward > crates/forward_check/stdin`
+mod forward;
+mod queue;
+
+use runs::random::Random;
+use std::io::{self, Write};
+use std::{env, process};
+
+fn one_of<T: Copy>(random: &mut Random, choices: &[T]) -> T {
+    choices[random.below(choices.len() as u64) as usize]
+}
+
+fn main() -> io::Result<()> {
+    let recording = match env::args().nth(1).as_deref() {
+        Some("queue") => queue::recording(),
+        Some("forward") => forward::recording(),
+        _ => {
+            eprintln!("record queue, or record forward");
+            process::exit(2)
+        }
+    };
+    io::stdout().write_all(&recording)
+}
