@@ -2,3 +2,4 @@
 pub mod Counting
 pub mod Degrees
 pub mod Left
+pub mod Unreached
