@@ -1,10 +1,10 @@
 -- What a public call of a solver leaves: refused or done, the one outcome that its promise names. Assumes nothing.
-use Prim.Native.Nat.{ℕ, zero, suc, _*_, _≤_}
+use Prim.Native.Nat.{ℕ, zero, suc}
 use mathlib.Core.Bool.{Bool}
 use mathlib.Core.List.{List}
 use mathlib.Core.Path.{_≡_, refl, ap, _∙_}
 use native.Mathlib.Omega.{arith}
-use lib.ListN.{length, getD, replicate}
+use lib.ListN.{getD, replicate}
 use lib.Ieee.{Float}
 use Rattle.numbers.specs.Numbers.{+0}
 use Rattle.norm.specs.Norm.{Norm, addSquares}
@@ -12,46 +12,21 @@ use Rattle.norm.proofs.Unique.{unique}
 use Rattle.refusals.specs.Refusals.{_or_, settings}
 use Rattle.refusals.specs.Calls.{Left, left, call}
 use Rattle.refusals.specs.declared.Settings.{Settings}
-use Rattle.refusals.proofs.Laws.{Alike, refused, accepted, agree-by}
+use Rattle.refusals.proofs.Laws.{refused, accepted, agree-by}
 use Rattle.rules.specs.Ways.{Way}
 use Rattle.rules.specs.Rules.{State, Watch}
 use Rattle.rules.specs.Answers.{visitedCount, scoreAt}
 use Rattle.calls.specs.declared.Counted.{Counted}
 use Rattle.calls.specs.declared.Solved.{Solved}
 use Rattle.calls.specs.declared.Scored.{Scored}
-use Rattle.calls.specs.Lent.{words, tally, answer, score, SolveLent, solveLent, solveLengths, solveDone}
+use Rattle.calls.specs.Lent.{tally, answer, score, solveLent, solveDone}
 use Rattle.calls.specs.Outcomes.{Given, ends, counted, solvedWith, Solves, queried}
-use Rattle.calls.specs.Promises.{Fits, Measured, Queried, Settled, Settles, Checks, countsOf}
-
--- as many words as n nodes need are enough
-words-enough : (n k : ℕ) → k ≡ words n → n ≤ 64 * k
-unfolding words
-words-enough n k e = omega arith
-
--- buffers of the stated lengths have room
-pub fits : (n : ℕ) (sources : List ℕ) (b : SolveLent) → n ≤ 65536 → length sources ≤ 65536 → Alike (solveLengths n b) → Fits n sources b
-fits n sources b few listed l =
-    record {
-      listed = listed;
-      room =
-          record {
-            few = few;
-            estimate-long = l .0;
-            residual-long = l .1 .0;
-            wide = l .1 .1 .1 .0;
-            paired = l .1 .1 .1 .1 .0;
-            queued-room = words-enough n _ (l .1 .1 .1 .1 .1 .0);
-            visited-room = words-enough n _ (l .1 .1 .1 .1 .1 .1 .0);
-          };
-      degrees-long = l .1 .1 .0;
-      queued-long = l .1 .1 .1 .1 .1 .0;
-      visited-long = l .1 .1 .1 .1 .1 .1 .0;
-    }
+use Rattle.calls.specs.Promises.{Measured, Queried, Settled, Settles, Checks, countsOf}
 
 -- what a settled solve leaves, with the degrees cleared
 pub settled-left : {meant : Way → Type 0} {f : Way → State} {n : ℕ} {r : Counted} {estimate residual degrees priorities : List Float} {nodes queued visited : List ℕ}
     → Settled meant f n r estimate residual priorities nodes queued visited → degrees ≡ replicate n +0 → (way : Way) → meant way
-    → left r (solveLent estimate residual degrees priorities nodes queued visited) ≡ left (countsOf (f way)) (solveDone n (f way))
+    → left r (solveLent estimate residual degrees priorities nodes queued visited) ≡ left (countsOf (f way)) (solveDone n (f way .estimate) (f way .residual))
 unfolding solveDone
 settled-left z d way m =
     let c = z .counts way m in
@@ -69,7 +44,7 @@ unfolding _or_
 or-nothing zero = refl
 or-nothing (suc a) = refl
 
-module _ {B : Type 0} (backward : Bool) (g : Given B) (s : Settings) (watch : Watch) (sources : List ℕ) (listed further : ℕ) where
+module _ {B : Type 0} (backward : Bool) (g : Given State B) (s : Settings) (watch : Watch) (sources : List ℕ) (listed further : ℕ) where
   -- a call is refused: r, the number, is not 0
   pub call-refused : {r : ℕ} → r ≡ g .tests listed or settings s or further → (r ≡ 0 → ⊥) → Checks backward g s watch sources listed further (left (tally r 0 0) (g .before))
   unfolding counted
@@ -91,7 +66,7 @@ module _ {B : Type 0} (backward : Bool) (g : Given B) (s : Settings) (watch : Wa
   no-further e d = with-further e d ∙ ap (λ (k : ℕ). counted (g .tests listed or k) g (ends backward g s watch sources)) (or-nothing (settings s))
 
 -- A solve's outcome is that before its norm was taken, with the norm of the residual that it left.
-pub solve-measured : {B : Type 0} (number : ℕ) (g : Given B) (s : State) {c : Counted} {b : B} {x : Solved} (residualOf : B → List Float) → residualOf (g .after s) ≡ s .residual
+pub solve-measured : {B : Type 0} (number : ℕ) (g : Given State B) (s : State) {c : Counted} {b : B} {x : Solved} (residualOf : B → List Float) → residualOf (g .after s) ≡ s .residual
     → left c b ≡ counted number g s → Measured c (residualOf b) x → Solves number g s (left x b)
 unfolding counted solvedWith call
 solve-measured zero g s {c} {b} {x} residualOf i d m =
@@ -114,7 +89,7 @@ solve-measured (suc k) g s {c} {b} {x} residualOf i d m =
     }
 
 -- A query's outcome is that of its solve, with the score that the solve left.
-pub query-answered : {B : Type 0} (number : ℕ) (g : Given B) (s : State) (v : ℕ) {c : Counted} {b : B} {x : Scored} (estimateOf : B → List Float) → estimateOf (g .after s) ≡ s .estimate
+pub query-answered : {B : Type 0} (number : ℕ) (g : Given State B) (s : State) (v : ℕ) {c : Counted} {b : B} {x : Scored} (estimateOf : B → List Float) → estimateOf (g .after s) ≡ s .estimate
     → left c b ≡ counted number g s → Queried (c .refusal) (estimateOf b) v x → left x b ≡ queried number g s v
 unfolding counted queried call scoreAt
 query-answered zero g s v {c} {b} estimateOf i d m =
@@ -126,7 +101,7 @@ query-answered (suc k) g s v {c} {b} estimateOf i d m =
     let z = ap (λ (y : Left Counted _). y .answer .refusal) d in
     ap (λ (y : Scored). left y b) (m .refused (λ h. absurd (omega arith))) ∙ ap (λ (y : Left Counted _). left (score (y .answer .refusal) +0) (y .lent)) d
 
-module _ {B : Type 0} (number : ℕ) (g : Given B) (s : State) where
+module _ {B : Type 0} (number : ℕ) (g : Given State B) (s : State) where
   -- two outcomes that the promise of a solve allows are equal
   pub one-solve : (x y : Left Solved B) → Solves number g s x → Solves number g s y → x ≡ y
   unfolding solvedWith

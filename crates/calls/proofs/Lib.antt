@@ -2,4 +2,9 @@
 pub mod Counting
 pub mod Degrees
 pub mod Left
+pub mod Fits
+pub mod Asked
+pub mod After
+pub mod Directed
+pub mod Links
 pub mod Unreached

@@ -1,6 +1,6 @@
--- What is lent to a solve, the lengths that are stated for it, and what it holds after a solve that is done. Assumes nothing.
+-- What is lent to a call, the lengths that are stated for it, and what it holds after a call that is done. Assumes nothing.
 use Prim.Native.Nat.{ℕ, _+_, _/_}
-use mathlib.Core.List.{List, [], _∷_}
+use mathlib.Core.List.{List, [], _∷_, _++_}
 use lib.ListN.{length, replicate}
 use lib.Ieee.{Float}
 use Rattle.numbers.specs.Numbers.{+0}
@@ -25,7 +25,18 @@ answer refusal pushes visited norm = record { refusal = refusal; «push_count» 
 abbrev pub score : ℕ → Float → Scored
 score refusal x = record { refusal = refusal; score = x }
 
--- ---- a forward solve of lent rows
+-- ---- kinds of lending
+
+-- the lengths that are stated for n nodes and m links, and what is held after a call that is done, by what its solves come to
+pub record Lending (S B : Type 0) : Type 0 where
+  pub lengths : ℕ → ℕ → B → List (ℕ × ℕ)
+  pub done : ℕ → ℕ → S → B
+
+-- the same, where other lengths are tested besides
+abbrev pub besides : {S B : Type 0} → List (ℕ × ℕ) → Lending S B → Lending S B
+besides more k = record { lengths = λ n m b. more ++ k .lengths n m b; done = k .done }
+
+-- ---- what every solve is lent
 
 -- two vectors for the answer; workspace for degrees, the queue and the marks
 pub record SolveLent : Type 0 where
@@ -53,23 +64,27 @@ solveLengths n b =
     ∷ (length (b .visited), words n)
     ∷ []
 
--- after a solve that ends in a state: the answer in full, the workspace all zero
-unfoldable pub solveDone : ℕ → State → SolveLent
-solveDone n s = solveLent (s .estimate) (s .residual) (replicate n +0) (replicate n +0) (replicate n 0) (replicate (words n) 0) (replicate (words n) 0)
+-- after solves that leave these two vectors: the answer in full, the workspace all zero
+unfoldable pub solveDone : ℕ → List Float → List Float → SolveLent
+solveDone n estimate residual = solveLent estimate residual (replicate n +0) (replicate n +0) (replicate n 0) (replicate (words n) 0) (replicate (words n) 0)
 
--- ---- a forward solve of a list of links
+-- a forward solve is lent no more
+abbrev pub solving : Lending State SolveLent
+solving = record { lengths = λ n m b. solveLengths n b; done = λ n m s. solveDone n (s .estimate) (s .residual) }
 
--- the same, and workspace for rows
-pub record LinksLent : Type 0 where
+-- ---- what a call with a list of links is lent
+
+-- workspace for rows, and what else the call lends
+pub record LinksLent (B : Type 0) : Type 0 where
   pub starts : List ℕ
   pub columns : List ℕ
   pub weights : List Float
-  pub solve : SolveLent
+  pub rest : B
 
 -- the same, by its parts
-abbrev pub linksLent : List ℕ → List ℕ → List Float → SolveLent → LinksLent
-linksLent s c w b = record { starts = s; columns = c; weights = w; solve = b }
+abbrev pub linksLent : {B : Type 0} → List ℕ → List ℕ → List Float → B → LinksLent B
+linksLent s c w b = record { starts = s; columns = c; weights = w; rest = b }
 
--- after a solve of m links
-unfoldable pub linksDone : ℕ → ℕ → State → LinksLent
-linksDone n m s = linksLent (replicate (n + 1) 0) (replicate m 0) (replicate m +0) (solveDone n s)
+-- after a call with m links that is done
+unfoldable pub linksDone : {B : Type 0} → ℕ → ℕ → B → LinksLent B
+linksDone n m b = linksLent (replicate (n + 1) 0) (replicate m 0) (replicate m +0) b

@@ -17,51 +17,52 @@ use Rattle.rules.specs.Answers.{visitedCount, scoreAt}
 use Rattle.calls.specs.declared.Counted.{Counted}
 use Rattle.calls.specs.declared.Solved.{Solved}
 use Rattle.calls.specs.declared.Scored.{Scored}
-use Rattle.calls.specs.Lent.{tally, answer, score, SolveLent, solveLengths, solveDone, LinksLent, linksDone}
+use Rattle.calls.specs.Lent.{tally, answer, score, Lending, LinksLent, linksDone}
 
 -- ---- what a call is given
 
 -- a graph of so many nodes by its rows, the first number of tests 1 to 5 by how many sources or targets are listed, what the lent buffers hold before the
--- call, and what they hold after a solve that ends in a state
-pub record Given (B : Type 0) : Type 0 where
+-- call, and what they hold after a call that is done, by what its solves come to
+pub record Given (S B : Type 0) : Type 0 where
   pub nodes : ℕ
   pub rows : List (List Entry)
   pub tests : ℕ → ℕ
   pub before : B
-  pub after : State → B
+  pub after : S → B
 
--- a list of links, for a forward solve
-unfoldable pub givenLinks : ℕ → List ℕ → List ℕ → List Float → LinksLent → Given LinksLent
-givenLinks n from to weight b =
+-- a list of links, with a kind of lending besides the buffers for rows
+unfoldable pub givenLinks : {S B : Type 0} → Lending S B → ℕ → List ℕ → List ℕ → List Float → LinksLent B → Given S (LinksLent B)
+givenLinks k n from to weight b =
     let m = length from in
     record {
       nodes = n;
       rows = rowsOf n (linksOf from to weight);
       tests = λ listed.
           linkTests n m listed
-          ((length to, m) ∷ (length weight, m) ∷ (length (b .starts), n + 1) ∷ (length (b .columns), m) ∷ (length (b .weights), m) ∷ solveLengths n (b .solve)) weight;
+          ((length to, m) ∷ (length weight, m) ∷ (length (b .starts), n + 1) ∷ (length (b .columns), m) ∷ (length (b .weights), m) ∷ k .lengths n m (b .rest)) weight;
       before = b;
-      after = linksDone n m;
+      after = λ s. linksDone n m (k .done n m s);
     }
 
--- rows, for a forward solve
-unfoldable pub givenRows : ℕ → List ℕ → List ℕ → List Float → SolveLent → Given SolveLent
-givenRows n starts columns weights b =
+-- rows, with a kind of lending
+unfoldable pub givenRows : {S B : Type 0} → Lending S B → ℕ → List ℕ → List ℕ → List Float → B → Given S B
+givenRows k n starts columns weights b =
+    let m = length columns in
     record {
       nodes = n;
       rows = rowsIn n starts columns weights;
-      tests = λ listed. rowTests n listed ((length starts, n + 1) ∷ (length weights, length columns) ∷ solveLengths n b) starts columns weights;
+      tests = λ listed. rowTests n listed ((length starts, n + 1) ∷ (length weights, m) ∷ k .lengths n m b) starts columns weights;
       before = b;
-      after = solveDone n;
+      after = k .done n m;
     }
 
 -- the state that a solve in a direction ends in
-unfoldable pub ends : {B : Type 0} → Bool → Given B → Settings → Watch → List ℕ → State
+unfoldable pub ends : {S B : Type 0} → Bool → Given S B → Settings → Watch → List ℕ → State
 ends backward g settings watch sources = solve (over backward (g .nodes) (g .rows)) settings watch (g .nodes) sources
 
 -- ---- what it leaves, by its first number and the state that its solve ends in
 
-module _ {B : Type 0} (number : ℕ) (g : Given B) (s : State) where
+module _ {B : Type 0} (number : ℕ) (g : Given State B) (s : State) where
   -- a solve before its norm is taken
   unfoldable pub counted : Left Counted B
   counted = call number (λ k. tally k 0 0) (g .before) (left (tally 0 (s .pushes) (visitedCount s)) (g .after s))

@@ -54,9 +54,9 @@ pub record Settled (meant : Way → Type 0) (f : Way → State) (n : ℕ) (r : C
   pub visited-zero : visited ≡ replicate (words n) 0
 
 -- a solve left the counts of the state that it ends in, and the lent buffers as they are after it
-pub record Settles {B : Type 0} (backward : Bool) (g : Given B) (s : Settings) (watch : Watch) (sources : List ℕ) (x : Left Counted B) : Type 0 where
+pub record Settles {B : Type 0} (backward : Bool) (g : Given State B) (s : Settings) (watch : Watch) (sources : List ℕ) (x : Left Counted B) : Type 0 where
   pub leaves : x ≡ left (countsOf (ends backward g s watch sources)) (g .after (ends backward g s watch sources))
 
 -- a call was refused with its first number, `further` being that of the tests after those of the settings, or solved
-pub record Checks {B : Type 0} (backward : Bool) (g : Given B) (s : Settings) (watch : Watch) (sources : List ℕ) (listed further : ℕ) (x : Left Counted B) : Type 0 where
+pub record Checks {B : Type 0} (backward : Bool) (g : Given State B) (s : Settings) (watch : Watch) (sources : List ℕ) (listed further : ℕ) (x : Left Counted B) : Type 0 where
   pub leaves : x ≡ counted (g .tests listed or settings s or further) g (ends backward g s watch sources)

@@ -1,5 +1,2 @@
--- The laws that the proofs of the forward solver share, and the theorem that each call has one outcome.
-pub mod Solving
-pub mod Asked
-pub mod After
+-- The theorem that each call of the forward solver has one outcome.
 pub mod One

@@ -6,6 +6,7 @@ use lib.Ieee.{Float}
 use Rattle.refusals.specs.Calls.{Left}
 use Rattle.refusals.specs.declared.Settings.{Settings}
 use Rattle.refusals.proofs.Laws.{agree}
+use Rattle.rules.specs.Rules.{State}
 use Rattle.calls.specs.declared.Solved.{Solved}
 use Rattle.calls.specs.declared.Scored.{Scored}
 use Rattle.calls.specs.Outcomes.{Given}
@@ -13,7 +14,7 @@ use Rattle.calls.proofs.Left.{one-solve}
 use Rattle.forward_push.specs.Outcomes.{solveSingleSource, solveMultiSource, solveWithTarget, querySingleEntry, extrapolating}
 
 -- whether it is given a list of links or rows
-module _ {B : Type 0} (g : Given B) where
+module _ {B : Type 0} (g : Given State B) where
   -- solve_single_source
   pub one-single-source : (source : ℕ) (s : Settings) (x y : Left Solved B) → solveSingleSource g source s x → solveSingleSource g source s y → x ≡ y
   one-single-source source s x y = one-solve _ g _ x y

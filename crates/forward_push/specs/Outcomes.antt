@@ -8,13 +8,13 @@ use Rattle.refusals.specs.Refusals.{_or_, sizes, alphas, settings, precision}
 use Rattle.refusals.specs.Calls.{Left, left, call}
 use Rattle.refusals.specs.declared.Settings.{Settings}
 use Rattle.rules.specs.Ways.{forward}
-use Rattle.rules.specs.Rules.{unwatched, watched}
+use Rattle.rules.specs.Rules.{State, unwatched, watched}
 use Rattle.rules.specs.Answers.{extrapolated}
 use Rattle.calls.specs.declared.Solved.{Solved}
 use Rattle.calls.specs.declared.Scored.{Scored}
 use Rattle.calls.specs.Outcomes.{Given, ends, Solves, queried}
 
-module _ {B : Type 0} (g : Given B) where
+module _ {B : Type 0} (g : Given State B) where
   -- solve_single_source: a list of one source
   abbrev pub solveSingleSource : ℕ → Settings → Left Solved B → Type 0
   solveSingleSource source s = Solves (g .tests 0 or settings s) g (ends forward g s unwatched (source ∷ []))

@@ -8,7 +8,7 @@ ghost use Rattle.refusals.specs.Calls.{left};
 ghost use Rattle.graph.specs.Store.{Buffers};
 ghost use Rattle.rules.specs.Ways.{forward};
 ghost use Rattle.solver.specs.States.{watchIn};
-ghost use Rattle.calls.specs.Lent.{words, solveLent, linksLent};
+ghost use Rattle.calls.specs.Lent.{words, solveLent, linksLent, solving};
 ghost use Rattle.calls.specs.Outcomes.{givenLinks};
 ghost use Rattle.calls.specs.Promises.{Fits, Settles, Checks};
 use crate::rows::solve_rows;
@@ -74,7 +74,7 @@ fn solve_links(
 ) -> Counted
     requires { ⌜ Buffers n (now from) (now to) (now weight) (now starts) (now columns) (now weights) (now nodes)
         × Fits n (now sources) (solveLent (now estimate) (now residual) (now degrees) (now priorities) (now nodes) (now queued) (now visited)) ⌝ }
-    ensures { λ r. ⌜ Settles forward (givenLinks n (now (from .entry)) (now (to .entry)) (now (weight .entry)) (linksLent (now (starts .entry)) (now (columns .entry)) (now (weights .entry))
+    ensures { λ r. ⌜ Settles forward (givenLinks solving n (now (from .entry)) (now (to .entry)) (now (weight .entry)) (linksLent (now (starts .entry)) (now (columns .entry)) (now (weights .entry))
         (solveLent (now (estimate .entry)) (now (residual .entry)) (now (degrees .entry)) (now (priorities .entry)) (now (nodes .entry)) (now (queued .entry)) (now (visited .entry)))))
         settings (watchIn watch) (now (sources .entry)) (left r (linksLent (now (starts .exit)) (now (columns .exit)) (now (weights .exit))
         (solveLent (now (estimate .exit)) (now (residual .exit)) (now (degrees .exit)) (now (priorities .exit)) (now (nodes .exit)) (now (queued .exit)) (now (visited .exit))))) ⌝ }
@@ -126,7 +126,7 @@ pub fn checked_links(
     visited: &mut [u64],
 ) -> Counted
     requires { ⌜ (listed ≤ 65536 → length (now sources) ≤ 65536) ⌝ }
-    ensures { λ r. ⌜ Checks forward (givenLinks n (now (from .entry)) (now (to .entry)) (now (weight .entry)) (linksLent (now (starts .entry)) (now (columns .entry)) (now (weights .entry))
+    ensures { λ r. ⌜ Checks forward (givenLinks solving n (now (from .entry)) (now (to .entry)) (now (weight .entry)) (linksLent (now (starts .entry)) (now (columns .entry)) (now (weights .entry))
         (solveLent (now (estimate .entry)) (now (residual .entry)) (now (degrees .entry)) (now (priorities .entry)) (now (nodes .entry)) (now (queued .entry)) (now (visited .entry)))))
         settings (watchIn watch) (now (sources .entry)) listed further
         (left r (linksLent (now (starts .exit)) (now (columns .exit)) (now (weights .exit))

@@ -8,7 +8,7 @@ ghost use Rattle.refusals.specs.Calls.{left};
 ghost use Rattle.graph.specs.Store.{Rowed};
 ghost use Rattle.rules.specs.Ways.{forward};
 ghost use Rattle.solver.specs.States.{watchIn};
-ghost use Rattle.calls.specs.Lent.{words, solveLent};
+ghost use Rattle.calls.specs.Lent.{words, solveLent, solving};
 ghost use Rattle.calls.specs.Outcomes.{givenRows};
 ghost use Rattle.calls.specs.Promises.{Fits, Settles, Checks};
 use calls::Counted;
@@ -68,7 +68,7 @@ pub fn solve_rows<'a>(
 ) -> Counted
     requires { ⌜ Rowed n (now starts) (now columns) (now weights)
         × Fits n (now sources) (solveLent (now estimate) (now residual) (now degrees) (now priorities) (now nodes) (now queued) (now visited)) ⌝ }
-    ensures { λ r. ⌜ Settles forward (givenRows n (now (starts .entry)) (now (columns .entry)) (now (weights .entry))
+    ensures { λ r. ⌜ Settles forward (givenRows solving n (now (starts .entry)) (now (columns .entry)) (now (weights .entry))
         (solveLent (now (estimate .entry)) (now (residual .entry)) (now (degrees .entry)) (now (priorities .entry)) (now (nodes .entry)) (now (queued .entry)) (now (visited .entry))))
         settings (watchIn watch) (now (sources .entry))
         (left r (solveLent (now (estimate .exit)) (now (residual .exit)) (now (degrees .exit)) (now (priorities .exit)) (now (nodes .exit)) (now (queued .exit)) (now (visited .exit)))) ⌝ }
@@ -118,7 +118,7 @@ pub fn checked_rows<'a>(
     visited: &mut [u64],
 ) -> Counted
     requires { ⌜ (listed ≤ 65536 → length (now sources) ≤ 65536) ⌝ }
-    ensures { λ r. ⌜ Checks forward (givenRows n (now (starts .entry)) (now (columns .entry)) (now (weights .entry))
+    ensures { λ r. ⌜ Checks forward (givenRows solving n (now (starts .entry)) (now (columns .entry)) (now (weights .entry))
         (solveLent (now (estimate .entry)) (now (residual .entry)) (now (degrees .entry)) (now (priorities .entry)) (now (nodes .entry)) (now (queued .entry)) (now (visited .entry))))
         settings (watchIn watch) (now (sources .entry)) listed further
         (left r (solveLent (now (estimate .exit)) (now (residual .exit)) (now (degrees .exit)) (now (priorities .exit)) (now (nodes .exit)) (now (queued .exit)) (now (visited .exit)))) ⌝ }

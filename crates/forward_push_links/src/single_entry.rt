@@ -1,7 +1,7 @@
 // The score of the target in a forward solve from one source, of a list of links.
 ghost use mathlib.Core.Path.{_≡_};
 ghost use Rattle.refusals.specs.Calls.{left};
-ghost use Rattle.calls.specs.Lent.{solveLent, linksLent};
+ghost use Rattle.calls.specs.Lent.{solveLent, linksLent, solving};
 ghost use Rattle.calls.specs.Outcomes.{givenLinks};
 ghost use Rattle.forward_push.specs.Outcomes.{querySingleEntry};
 use calls::Scored;
@@ -30,7 +30,7 @@ pub extern "C" fn query_single_entry_links(
 ) -> Scored
     ensures { λ r. ⌜ left r (linksLent (now (starts .exit)) (now (columns .exit)) (now (weights .exit))
         (solveLent (now (estimate .exit)) (now (residual .exit)) (now (degrees .exit)) (now (priorities .exit)) (now (nodes .exit)) (now (queued .exit)) (now (visited .exit))))
-        ≡ querySingleEntry (givenLinks n (now (from .entry)) (now (to .entry)) (now (weight .entry)) (linksLent (now (starts .entry)) (now (columns .entry)) (now (weights .entry))
+        ≡ querySingleEntry (givenLinks solving n (now (from .entry)) (now (to .entry)) (now (weight .entry)) (linksLent (now (starts .entry)) (now (columns .entry)) (now (weights .entry))
         (solveLent (now (estimate .entry)) (now (residual .entry)) (now (degrees .entry)) (now (priorities .entry)) (now (nodes .entry)) (now (queued .entry)) (now (visited .entry)))))
         source target settings ⌝ }
 {

@@ -1,6 +1,6 @@
 // A forward solve from one source that stops early, where the estimate of the target is precise enough, of a list of links.
 ghost use Rattle.refusals.specs.Calls.{left};
-ghost use Rattle.calls.specs.Lent.{solveLent, linksLent};
+ghost use Rattle.calls.specs.Lent.{solveLent, linksLent, solving};
 ghost use Rattle.calls.specs.Outcomes.{givenLinks};
 ghost use Rattle.forward_push.specs.Outcomes.{solveWithTarget};
 use calls::Solved;
@@ -28,7 +28,7 @@ pub extern "C" fn solve_with_target_links(
     queued: &mut [u64],
     visited: &mut [u64],
 ) -> Solved
-    ensures { λ r. ⌜ solveWithTarget (givenLinks n (now (from .entry)) (now (to .entry)) (now (weight .entry)) (linksLent (now (starts .entry)) (now (columns .entry)) (now (weights .entry))
+    ensures { λ r. ⌜ solveWithTarget (givenLinks solving n (now (from .entry)) (now (to .entry)) (now (weight .entry)) (linksLent (now (starts .entry)) (now (columns .entry)) (now (weights .entry))
         (solveLent (now (estimate .entry)) (now (residual .entry)) (now (degrees .entry)) (now (priorities .entry)) (now (nodes .entry)) (now (queued .entry)) (now (visited .entry)))))
         source target «target_precision» settings (left r (linksLent (now (starts .exit)) (now (columns .exit)) (now (weights .exit))
         (solveLent (now (estimate .exit)) (now (residual .exit)) (now (degrees .exit)) (now (priorities .exit)) (now (nodes .exit)) (now (queued .exit)) (now (visited .exit))))) ⌝ }

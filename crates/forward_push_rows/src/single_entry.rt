@@ -1,7 +1,7 @@
 // The score of the target in a forward solve from one source, of rows.
 ghost use mathlib.Core.Path.{_≡_};
 ghost use Rattle.refusals.specs.Calls.{left};
-ghost use Rattle.calls.specs.Lent.{solveLent};
+ghost use Rattle.calls.specs.Lent.{solveLent, solving};
 ghost use Rattle.calls.specs.Outcomes.{givenRows};
 ghost use Rattle.forward_push.specs.Outcomes.{querySingleEntry};
 use calls::Scored;
@@ -26,7 +26,7 @@ pub extern "C" fn query_single_entry_rows<'a>(
     visited: &mut [u64],
 ) -> Scored
     ensures { λ r. ⌜ left r (solveLent (now (estimate .exit)) (now (residual .exit)) (now (degrees .exit)) (now (priorities .exit)) (now (nodes .exit)) (now (queued .exit)) (now (visited .exit)))
-        ≡ querySingleEntry (givenRows n (now (starts .entry)) (now (columns .entry)) (now (weights .entry))
+        ≡ querySingleEntry (givenRows solving n (now (starts .entry)) (now (columns .entry)) (now (weights .entry))
         (solveLent (now (estimate .entry)) (now (residual .entry)) (now (degrees .entry)) (now (priorities .entry)) (now (nodes .entry)) (now (queued .entry)) (now (visited .entry))))
         source target settings ⌝ }
 {

@@ -1,6 +1,6 @@
 // A forward solve from one source, of rows.
 ghost use Rattle.refusals.specs.Calls.{left};
-ghost use Rattle.calls.specs.Lent.{solveLent};
+ghost use Rattle.calls.specs.Lent.{solveLent, solving};
 ghost use Rattle.calls.specs.Outcomes.{givenRows};
 ghost use Rattle.forward_push.specs.Outcomes.{solveSingleSource};
 use calls::Solved;
@@ -23,7 +23,7 @@ pub extern "C" fn solve_single_source_rows<'a>(
     queued: &mut [u64],
     visited: &mut [u64],
 ) -> Solved
-    ensures { λ r. ⌜ solveSingleSource (givenRows n (now (starts .entry)) (now (columns .entry)) (now (weights .entry))
+    ensures { λ r. ⌜ solveSingleSource (givenRows solving n (now (starts .entry)) (now (columns .entry)) (now (weights .entry))
         (solveLent (now (estimate .entry)) (now (residual .entry)) (now (degrees .entry)) (now (priorities .entry)) (now (nodes .entry)) (now (queued .entry)) (now (visited .entry))))
         source settings (left r (solveLent (now (estimate .exit)) (now (residual .exit)) (now (degrees .exit)) (now (priorities .exit)) (now (nodes .exit)) (now (queued .exit)) (now (visited .exit)))) ⌝ }
 {

@@ -2,10 +2,11 @@
 use mathlib.Core.Path.{_≡_}
 use denote.Ref.{now}
 use Rattle.refusals.specs.Refusals.{_or_, settings}
-use Rattle.calls.specs.Lent.{solveLent, linksLent}
+use Rattle.calls.specs.Lent.{solveLent, linksLent, solving}
 use Rattle.calls.specs.Outcomes.{givenLinks}
 use Rattle.calls.proofs.Left.{call-refused, call-done}
-use Rattle.forward_push.proofs.Asked.{links-asked}
+use Rattle.calls.proofs.Asked.{links-asked}
+use Rattle.calls.proofs.Fits.{fits}
 use borrow.Author.Needs.{needs}
 use Rattle.forward_push.proofs.links.checked_links.Statement.{statement}
 use Rattle.forward_push.proofs.links.checked_links.Tie as tie
@@ -13,7 +14,7 @@ use Rattle.forward_push.proofs.links.checked_links.Tie as tie
 -- the number
 number : (c : tie.After-or2) → let a = c .before .before .before .before .before .before .before .before .before .before .before .before .before .before .before .before .before .before .args in
     c .or2 .result
-    ≡ givenLinks (a .n) (now (a .from)) (now (a .to)) (now (a .weight)) (linksLent (now (a .starts)) (now (a .columns)) (now (a .weights))
+    ≡ givenLinks solving (a .n) (now (a .from)) (now (a .to)) (now (a .weight)) (linksLent (now (a .starts)) (now (a .columns)) (now (a .weights))
     (solveLent (now (a .estimate)) (now (a .residual)) (now (a .degrees)) (now (a .priorities)) (now (a .nodes)) (now (a .queued)) (now (a .visited))))
     .tests (a .listed) or settings (a .settings) or a .further
 unfolding givenLinks
@@ -38,7 +39,9 @@ returns c = call-refused _ _ _ _ _ _ _ (number (c .before)) (c .if1 .taken)
 solve-links-requires : tie.Need-solve-links-requires
 solve-links-requires c κs =
     let s = c .before .before .before .before .before .before .before .before .before .before .before .before .before .before .before .before .before .before .before .before .before .before .before .before .before .before .before .before .before in
-    links-asked (s .args .listed) _ (s .pre) _ _ _ _ _ (number (c .before .before .before .before .before .before .before .before .before .before .before)) (c .before .before .before .before .before .before .before .before .before .before .if1 .left)
+    let q = links-asked solving (s .args .listed) _ _ _ _ _ _ (number (c .before .before .before .before .before .before .before .before .before .before .before)) (c .before .before .before .before .before .before .before .before .before .before .if1 .left) in
+    let f = fits _ _ (s .pre) (q .1) in
+    (q .0 _ (f .room .paired), f)
 
 same-length : tie.Need-same-length
 same-length c = search needs

@@ -1,10 +1,12 @@
--- `forward_push::links::solve_links` meets its contract: the rows, the solve of them and the clearing, by the laws of `Solving`. Assumes nothing.
+-- `forward_push::links::solve_links` meets its contract: the rows, the solve of them and the clearing, by the law of lists of links. Assumes nothing.
 use mathlib.Core.Path.{_∙_}
 use denote.Ref.{now}
 use Rattle.graph.proofs.Back.{held-rowed}
 use Rattle.solver.specs.States.{watchIn}
-use Rattle.calls.specs.Outcomes.{givenRows, givenLinks, ends}
-use Rattle.forward_push.proofs.Solving.{fits-nodes, links-settled}
+use Rattle.rules.specs.Ways.{forward}
+use Rattle.calls.specs.Lent.{solving}
+use Rattle.calls.proofs.Fits.{fits-nodes}
+use Rattle.calls.proofs.Links.{links-settle}
 use borrow.Author.Needs.{needs}
 use Rattle.forward_push.proofs.links.solve_links.Statement.{statement}
 use Rattle.forward_push.proofs.links.solve_links.Tie as tie
@@ -58,17 +60,15 @@ same-length-10 : tie.Need-same-length-10
 same-length-10 c = search needs
 
 returns : tie.Need-returns
-unfolding givenRows givenLinks ends
 returns c =
     let a = c .before .before .before .before .before .before .before .before .before .before .before .before .before .before .before .before .before .before .before .before .before .before .before .before .before .before .before .before .before .before .before .before .before .before .before .before .before .before .before .before .before .before .before .before .before .before .before .before .before .before .before .before .before .before .before .before .before .before .before .before .before .before .before .before .args in
     let p = c .before .before .before .before .before .before .before .before .before .before .before .before .before .before .before .before .before .before .before .before .before .before .before .before .before .before .before .before .before .before .before .before .before .before .before .before .before .before .before .before .before .before .before .before .before .before .before .before .before .before .before .before .before .before .before .before .before .before .before .before .before .before .before .before .pre .0 in
     let b = c .before .before .before .before .before .before .before .before .before .before .before .before .before .before .before .before .before .before .before .before .before .before .before .before .before .before .before .before .before .before .before .before .before .before .before .before .before .before .before .before .before .before .before .before .before .build-rows in
-    record {
-      leaves = links-settled (a .settings) (watchIn (a .watch)) (now (a .sources)) (b .ensures) (c .before .before .before .before .before .before .before .before .before .before .before .before .before .before .before .before .before .before .before .before .before .before .before .before .before .before .solve-rows .ensures .leaves)
-          (rw (b .kept .1 .1 .1 .1 .0, p .starts-long) at (c .before .before .before .before .before .before .before .before .before .before .clear .ensures))
-          (rw (b .kept .1 .1 .1 .1 .1 .0, p .columns-long) at (c .before .before .before .before .before .before .clear2 .ensures))
-          (rw (b .kept .1 .1 .1 .1 .1 .1 .0, p .weights-long) at (c .before .before .clear-floats .ensures));
-    }
+    links-settle solving forward (now (a .from)) (now (a .to)) (now (a .weight)) _ (a .settings) (watchIn (a .watch)) (now (a .sources)) _ (b .ensures) (b .kept .1 .1 .1 .1 .1 .0 ∙ p .columns-long)
+    (c .before .before .before .before .before .before .before .before .before .before .before .before .before .before .before .before .before .before .before .before .before .before .before .before .before .before .solve-rows .ensures)
+    (rw (b .kept .1 .1 .1 .1 .0, p .starts-long) at (c .before .before .before .before .before .before .before .before .before .before .clear .ensures))
+    (rw (b .kept .1 .1 .1 .1 .1 .0, p .columns-long) at (c .before .before .before .before .before .before .clear2 .ensures))
+    (rw (b .kept .1 .1 .1 .1 .1 .1 .0, p .weights-long) at (c .before .before .clear-floats .ensures))
 
 pub solve-links-spec : {M : Type 1} → statement M
 solve-links-spec =

@@ -2,10 +2,11 @@
 use mathlib.Core.Path.{_≡_}
 use denote.Ref.{now}
 use Rattle.refusals.specs.Refusals.{_or_, settings}
-use Rattle.calls.specs.Lent.{solveLent}
+use Rattle.calls.specs.Lent.{solveLent, solving}
 use Rattle.calls.specs.Outcomes.{givenRows}
 use Rattle.calls.proofs.Left.{call-refused, call-done}
-use Rattle.forward_push.proofs.Asked.{rows-asked}
+use Rattle.calls.proofs.Asked.{rows-asked}
+use Rattle.calls.proofs.Fits.{fits}
 use borrow.Author.Needs.{needs}
 use Rattle.forward_push.proofs.rows.checked_rows.Statement.{statement}
 use Rattle.forward_push.proofs.rows.checked_rows.Tie as tie
@@ -13,7 +14,7 @@ use Rattle.forward_push.proofs.rows.checked_rows.Tie as tie
 -- the number
 number : (c : tie.After-or2) → let a = c .before .before .before .before .before .before .before .before .before .before .before .before .before .before .before .args in
     c .or2 .result
-    ≡ givenRows (a .n) (now (a .starts)) (now (a .columns)) (now (a .weights))
+    ≡ givenRows solving (a .n) (now (a .starts)) (now (a .columns)) (now (a .weights))
     (solveLent (now (a .estimate)) (now (a .residual)) (now (a .degrees)) (now (a .priorities)) (now (a .nodes)) (now (a .queued)) (now (a .visited)))
     .tests (a .listed) or settings (a .settings) or a .further
 unfolding givenRows
@@ -38,7 +39,8 @@ returns c = call-refused _ _ _ _ _ _ _ (number (c .before)) (c .if1 .taken)
 solve-rows-requires : tie.Need-solve-rows-requires
 solve-rows-requires c κs =
     let s = c .before .before .before .before .before .before .before .before .before .before .before .before .before .before .before .before .before .before .before .before .before .before .before in
-    rows-asked (s .args .listed) _ (s .pre) _ _ _ _ _ (number (c .before .before .before .before .before .before .before .before)) (c .before .before .before .before .before .before .before .if1 .left)
+    let q = rows-asked solving (s .args .listed) _ _ _ _ _ _ (number (c .before .before .before .before .before .before .before .before)) (c .before .before .before .before .before .before .before .if1 .left) in
+    (q .0, fits _ _ (s .pre) (q .1))
 
 same-length : tie.Need-same-length
 same-length c = search needs

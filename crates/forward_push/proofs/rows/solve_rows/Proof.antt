@@ -1,9 +1,10 @@
--- `forward_push::rows::solve_rows` meets its contract: the degrees, the solve and the clearing, by the laws of `Solving`. Assumes nothing.
+-- `forward_push::rows::solve_rows` meets its contract: the degrees, the solve and the clearing, by the laws of rows in a direction. Assumes nothing.
+use mathlib.Core.Path.{refl}
 use denote.Ref.{now}
 use Rattle.solver.specs.States.{watchIn}
 use Rattle.graph.proofs.Given.{summing-of}
 use Rattle.calls.specs.Outcomes.{givenRows, ends}
-use Rattle.forward_push.proofs.Solving.{rows-ready, fits-still, rows-settled}
+use Rattle.calls.proofs.Directed.{directed-forward, rows-ready, fits-still, degrees-long, directed-left}
 use borrow.Author.Needs.{needs}
 use Rattle.forward_push.proofs.rows.solve_rows.Statement.{statement}
 use Rattle.forward_push.proofs.rows.solve_rows.Tie as tie
@@ -15,7 +16,8 @@ solve-settled-requires : tie.Need-solve-settled-requires
 solve-settled-requires c κs =
     let p = c .before .before .before .before .before .before .before .before .before .before .before .before .before .before .before .before .before .before .before .before .before .before .pre in
     let e = c .before .before .before .before .before .before .before .before .before .sum-rows .ensures in
-    (rows-ready (p .0) (p .1 .degrees-long) e, fits-still (p .0) (p .1 .degrees-long) e (p .1))
+    let z = directed-forward (p .0) (rw (p .1 .degrees-long) at e) refl refl in
+    (rows-ready z, fits-still z (p .1))
 
 clear-floats-requires : tie.Need-clear-floats-requires
 clear-floats-requires c κs = search needs
@@ -46,7 +48,8 @@ unfolding givenRows ends
 returns c =
     let a = c .before .before .before .before .before .before .before .before .before .before .before .before .before .before .before .before .before .before .before .before .before .before .before .before .before .before .before .before .before .before .before .before .before .before .before .before .before .before .before .args in
     let p = c .before .before .before .before .before .before .before .before .before .before .before .before .before .before .before .before .before .before .before .before .before .before .before .before .before .before .before .before .before .before .before .before .before .before .before .before .before .before .before .pre in
-    record { leaves = rows-settled (p .0) (p .1 .degrees-long) (c .before .before .before .before .before .before .before .before .before .before .before .before .before .before .before .before .before .before .before .before .before .before .before .before .before .before .sum-rows .ensures) (a .settings) (watchIn (a .watch)) (now (a .sources)) (c .before .before .before .before .before .before .before .before .before .before .before .before .before .before .before .before .solve-settled .ensures) (c .before .before .clear-floats .ensures) }
+    let z = directed-forward (p .0) (rw (p .1 .degrees-long) at (c .before .before .before .before .before .before .before .before .before .before .before .before .before .before .before .before .before .before .before .before .before .before .before .before .before .before .sum-rows .ensures)) refl refl in
+    record { leaves = directed-left z (a .settings) (watchIn (a .watch)) (now (a .sources)) (c .before .before .before .before .before .before .before .before .before .before .before .before .before .before .before .before .solve-settled .ensures) (rw (degrees-long z) at (c .before .before .clear-floats .ensures)) }
 
 pub solve-rows-spec : {M : Type 1} → statement M
 solve-rows-spec =

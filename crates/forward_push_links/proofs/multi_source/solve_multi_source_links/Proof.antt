@@ -1,8 +1,9 @@
 -- `forward_push_links::solve_multi_source_links` meets its contract: what `checked_links` leaves, and the norm. Assumes nothing.
 use mathlib.Core.Path.{refl}
 use Rattle.solver.specs.States.{watchIn}
+use Rattle.calls.specs.Lent.{SolveLent, solving}
 use Rattle.calls.proofs.Left.{no-further, solve-measured}
-use Rattle.forward_push.proofs.After.{links-residual}
+use Rattle.calls.proofs.After.{done-residual, links-after}
 use borrow.Author.Needs.{needs}
 use Rattle.forward_push_links.proofs.multi_source.solve_multi_source_links.Statement.{statement}
 use Rattle.forward_push_links.proofs.multi_source.solve_multi_source_links.Tie as tie
@@ -45,7 +46,7 @@ same-length-10 c = search needs
 
 returns : tie.Need-returns
 unfolding watchIn
-returns c = solve-measured _ _ _ (λ b. b .solve .residual) (links-residual _ _ _ _ _ _) (no-further _ _ _ _ _ _ _ refl (c .before .before .before .before .before .before .before .before .before .before .before .before .before .before .before .before .before .before .before .before .before .before .checked-links .ensures)) (c .measured .ensures)
+returns c = solve-measured _ _ _ (λ b. b .rest .residual) (links-after solving (λ (b : SolveLent). b .residual) _ _ (λ n m. done-residual n _ _) _ _ _ _ _) (no-further _ _ _ _ _ _ _ refl (c .before .before .before .before .before .before .before .before .before .before .before .before .before .before .before .before .before .before .before .before .before .before .checked-links .ensures)) (c .measured .ensures)
 
 pub solve-multi-source-links-spec : {M : Type 1} → statement M
 solve-multi-source-links-spec =

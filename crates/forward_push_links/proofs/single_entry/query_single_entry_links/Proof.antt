@@ -2,8 +2,9 @@
 use mathlib.Core.Path.{refl}
 use native.Mathlib.Omega.{arith}
 use Rattle.solver.specs.States.{watchIn}
+use Rattle.calls.specs.Lent.{SolveLent, solving}
 use Rattle.calls.proofs.Left.{no-further, query-answered}
-use Rattle.forward_push.proofs.After.{links-estimate}
+use Rattle.calls.proofs.After.{done-estimate, links-after}
 use borrow.Author.Needs.{needs}
 use Rattle.forward_push_links.proofs.single_entry.query_single_entry_links.Statement.{statement}
 use Rattle.forward_push_links.proofs.single_entry.query_single_entry_links.Tie as tie
@@ -49,7 +50,7 @@ same-length-10 c = search needs
 
 returns : tie.Need-returns
 unfolding watchIn
-returns c = query-answered _ _ _ _ (λ b. b .solve .estimate) (links-estimate _ _ _ _ _ _) (no-further _ _ _ _ _ _ _ refl (c .before .before .before .before .before .before .before .before .before .before .before .before .before .before .before .before .before .before .before .before .before .before .checked-links .ensures)) (c .answered .ensures)
+returns c = query-answered _ _ _ _ (λ b. b .rest .estimate) (links-after solving (λ (b : SolveLent). b .estimate) _ _ (λ n m. done-estimate n _ _) _ _ _ _ _) (no-further _ _ _ _ _ _ _ refl (c .before .before .before .before .before .before .before .before .before .before .before .before .before .before .before .before .before .before .before .before .before .before .checked-links .ensures)) (c .answered .ensures)
 
 pub query-single-entry-links-spec : {M : Type 1} → statement M
 query-single-entry-links-spec =

@@ -1,8 +1,9 @@
 -- `forward_push_links::solve_with_target_links` meets its contract: what `checked_links` leaves, and the norm. Assumes nothing.
 use native.Mathlib.Omega.{arith}
 use Rattle.solver.specs.States.{watchIn}
+use Rattle.calls.specs.Lent.{SolveLent, solving}
 use Rattle.calls.proofs.Left.{with-further, solve-measured}
-use Rattle.forward_push.proofs.After.{links-residual}
+use Rattle.calls.proofs.After.{done-residual, links-after}
 use borrow.Author.Needs.{needs}
 use Rattle.forward_push_links.proofs.with_target.solve_with_target_links.Statement.{statement}
 use Rattle.forward_push_links.proofs.with_target.solve_with_target_links.Tie as tie
@@ -51,7 +52,7 @@ same-length-10 c = search needs
 
 returns : tie.Need-returns
 unfolding watchIn
-returns c = solve-measured _ _ _ (λ b. b .solve .residual) (links-residual _ _ _ _ _ _) (with-further _ _ _ _ _ _ _ (c .before .before .before .before .before .before .before .before .before .before .before .before .before .before .before .before .before .before .before .before .before .before .before .before .before .before .before .before .before .before .before .before .before .before .refuse-precision .ensures) (c .before .before .before .before .before .before .before .before .before .before .before .before .before .before .before .before .before .before .before .before .before .before .checked-links .ensures)) (c .measured .ensures)
+returns c = solve-measured _ _ _ (λ b. b .rest .residual) (links-after solving (λ (b : SolveLent). b .residual) _ _ (λ n m. done-residual n _ _) _ _ _ _ _) (with-further _ _ _ _ _ _ _ (c .before .before .before .before .before .before .before .before .before .before .before .before .before .before .before .before .before .before .before .before .before .before .before .before .before .before .before .before .before .before .before .before .before .before .refuse-precision .ensures) (c .before .before .before .before .before .before .before .before .before .before .before .before .before .before .before .before .before .before .before .before .before .before .checked-links .ensures)) (c .measured .ensures)
 
 pub solve-with-target-links-spec : {M : Type 1} → statement M
 solve-with-target-links-spec =

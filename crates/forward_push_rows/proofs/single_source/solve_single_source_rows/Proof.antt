@@ -2,8 +2,9 @@
 use mathlib.Core.Path.{refl}
 use native.Mathlib.Omega.{arith}
 use Rattle.solver.specs.States.{watchIn}
+use Rattle.calls.specs.Lent.{SolveLent, solving}
 use Rattle.calls.proofs.Left.{no-further, solve-measured}
-use Rattle.forward_push.proofs.After.{rows-residual}
+use Rattle.calls.proofs.After.{done-residual, rows-after}
 use borrow.Author.Needs.{needs}
 use Rattle.forward_push_rows.proofs.single_source.solve_single_source_rows.Statement.{statement}
 use Rattle.forward_push_rows.proofs.single_source.solve_single_source_rows.Tie as tie
@@ -40,7 +41,7 @@ same-length-7 c = search needs
 
 returns : tie.Need-returns
 unfolding watchIn
-returns c = solve-measured _ _ _ (λ b. b .residual) (rows-residual _ _ _ _ _ _) (no-further _ _ _ _ _ _ _ refl (c .before .before .before .before .before .before .before .before .before .before .before .before .before .before .before .before .checked-rows .ensures)) (c .measured .ensures)
+returns c = solve-measured _ _ _ (λ b. b .residual) (rows-after solving (λ (b : SolveLent). b .residual) _ _ (λ n m. done-residual n _ _) _ _ _ _ _) (no-further _ _ _ _ _ _ _ refl (c .before .before .before .before .before .before .before .before .before .before .before .before .before .before .before .before .checked-rows .ensures)) (c .measured .ensures)
 
 pub solve-single-source-rows-spec : {M : Type 1} → statement M
 solve-single-source-rows-spec =
