@@ -2,6 +2,8 @@
 pub mod Counting
 pub mod Degrees
 pub mod Left
+pub mod One
+pub mod Lengths
 pub mod Fits
 pub mod Asked
 pub mod After

@@ -1,18 +1,18 @@
 -- The one outcome of a solve or a query, whatever is lent to it: what it is given, and what it leaves. Assumes nothing.
 use Prim.Native.Nat.{ℕ, _+_}
 use mathlib.Core.Bool.{Bool}
-use mathlib.Core.List.{List, _∷_}
+use mathlib.Core.List.{List, [], _∷_}
 use mathlib.Core.Path.{_≡_}
 use lib.ListN.{length}
 use lib.Ieee.{Float}
 use Rattle.numbers.specs.Numbers.{+0}
 use Rattle.norm.specs.Norm.{Norm}
-use Rattle.refusals.specs.Refusals.{linkTests, rowTests}
+use Rattle.refusals.specs.Refusals.{_or_, settings, precision, linkTests, rowTests}
 use Rattle.refusals.specs.Calls.{Left, left, call}
 use Rattle.refusals.specs.declared.Settings.{Settings}
 use Rattle.graph.specs.Rows.{Entry, linksOf, rowsOf, rowsIn}
 use Rattle.rules.specs.Ways.{over}
-use Rattle.rules.specs.Rules.{State, Watch, solve}
+use Rattle.rules.specs.Rules.{State, Watch, unwatched, watched, solve}
 use Rattle.rules.specs.Answers.{visitedCount, scoreAt}
 use Rattle.calls.specs.declared.Counted.{Counted}
 use Rattle.calls.specs.declared.Solved.{Solved}
@@ -58,7 +58,7 @@ givenRows k n starts columns weights b =
 
 -- the state that a solve in a direction ends in
 unfoldable pub ends : {S B : Type 0} → Bool → Given S B → Settings → Watch → List ℕ → State
-ends backward g settings watch sources = solve (over backward (g .nodes) (g .rows)) settings watch (g .nodes) sources
+ends backward g s watch sources = solve (over backward (g .nodes) (g .rows)) s watch (g .nodes) sources
 
 -- ---- what it leaves, by its first number and the state that its solve ends in
 
@@ -80,3 +80,22 @@ module _ {B : Type 0} (number : ℕ) (g : Given State B) (s : State) where
   -- a query of the score of v
   unfoldable pub queried : ℕ → Left Scored B
   queried v = call number (λ k. score k +0) (g .before) (left (score 0 (scoreAt s v)) (g .after s))
+
+-- ---- the calls that both directions have
+
+module _ {B : Type 0} (backward : Bool) (g : Given State B) where
+  -- a solve from one source or target, which is a list of one
+  abbrev pub solvesOne : ℕ → Settings → Left Solved B → Type 0
+  solvesOne v s = Solves (g .tests 0 or settings s) g (ends backward g s unwatched (v ∷ []))
+
+  -- a solve from many
+  abbrev pub solvesMany : List ℕ → Settings → Left Solved B → Type 0
+  solvesMany vs s = Solves (g .tests (length vs) or settings s) g (ends backward g s unwatched vs)
+
+  -- a solve from v, where w is watched
+  abbrev pub solvesWatching : ℕ → ℕ → Float → Settings → Left Solved B → Type 0
+  solvesWatching v w p s = Solves (g .tests 0 or settings s or precision p) g (ends backward g s (watched w p) (v ∷ []))
+
+  -- a query of the score of w in a solve from v
+  abbrev pub queriesOne : ℕ → ℕ → Settings → Left Scored B
+  queriesOne v w s = queried (g .tests 0 or settings s) g (ends backward g s unwatched (v ∷ [])) w

@@ -66,6 +66,27 @@ pub fn unlike_solve(
         | (visited != w)
 }
 
+// Whether a test failed before, or a buffer for reverse rows of m entries, or for out-degrees, has another length than
+// stated.
+pub fn unlike_turned(
+    before: bool,
+    n: u32,
+    m: usize,
+    reverse_starts: usize,
+    reverse_columns: usize,
+    reverse_weights: usize,
+    out_degrees: usize,
+) -> bool
+    ensures { λ r. ⌜ r ≡ unlike before ((«reverse_starts», n + 1) ∷ («reverse_columns», m) ∷ («reverse_weights», m) ∷ («out_degrees», n) ∷ []) ⌝ }
+{
+    let k = n as usize;
+    before
+        | (reverse_starts != k + 1)
+        | (reverse_columns != m)
+        | (reverse_weights != m)
+        | (out_degrees != k)
+}
+
 // Whether a list of a call with m links, or a buffer for their rows, has another length than stated.
 pub fn unlike_links(
     n: u32,

@@ -6,30 +6,31 @@ use lib.Ieee.{Float}
 use Rattle.refusals.specs.Calls.{Left}
 use Rattle.refusals.specs.declared.Settings.{Settings}
 use Rattle.refusals.proofs.Laws.{agree}
+use Rattle.rules.specs.Ways.{forward}
 use Rattle.rules.specs.Rules.{State}
 use Rattle.calls.specs.declared.Solved.{Solved}
 use Rattle.calls.specs.declared.Scored.{Scored}
 use Rattle.calls.specs.Outcomes.{Given}
-use Rattle.calls.proofs.Left.{one-solve}
+use Rattle.calls.proofs.One.{one-from-one, one-from-many, one-watching, one-query}
 use Rattle.forward_push.specs.Outcomes.{solveSingleSource, solveMultiSource, solveWithTarget, querySingleEntry, extrapolating}
 
 -- whether it is given a list of links or rows
 module _ {B : Type 0} (g : Given State B) where
   -- solve_single_source
   pub one-single-source : (source : ℕ) (s : Settings) (x y : Left Solved B) → solveSingleSource g source s x → solveSingleSource g source s y → x ≡ y
-  one-single-source source s x y = one-solve _ g _ x y
+  one-single-source = one-from-one forward g
 
   -- solve_multi_source
   pub one-multi-source : (sources : List ℕ) (s : Settings) (x y : Left Solved B) → solveMultiSource g sources s x → solveMultiSource g sources s y → x ≡ y
-  one-multi-source sources s x y = one-solve _ g _ x y
+  one-multi-source = one-from-many forward g
 
   -- solve_with_target
   pub one-with-target : (source target : ℕ) (p : Float) (s : Settings) (x y : Left Solved B) → solveWithTarget g source target p s x → solveWithTarget g source target p s y → x ≡ y
-  one-with-target source target p s x y = one-solve _ g _ x y
+  one-with-target = one-watching forward g
 
   -- query_single_entry
   pub one-single-entry : (source target : ℕ) (s : Settings) (x y : Left Scored B) → x ≡ querySingleEntry g source target s → y ≡ querySingleEntry g source target s → x ≡ y
-  one-single-entry source target s x y = agree
+  one-single-entry = one-query forward g
 
 -- extrapolated_solution
 pub one-extrapolated : (estimate residual : List Float) (alpha : Float) (b : List Float) (x y : Left ℕ (List Float))

@@ -4,32 +4,32 @@ use Prim.Native.Nat.{ℕ}
 use mathlib.Core.List.{List, [], _∷_}
 use lib.ListN.{length}
 use lib.Ieee.{Float}
-use Rattle.refusals.specs.Refusals.{_or_, sizes, alphas, settings, precision}
+use Rattle.refusals.specs.Refusals.{_or_, sizes, alphas}
 use Rattle.refusals.specs.Calls.{Left, left, call}
 use Rattle.refusals.specs.declared.Settings.{Settings}
 use Rattle.rules.specs.Ways.{forward}
-use Rattle.rules.specs.Rules.{State, unwatched, watched}
+use Rattle.rules.specs.Rules.{State}
 use Rattle.rules.specs.Answers.{extrapolated}
 use Rattle.calls.specs.declared.Solved.{Solved}
 use Rattle.calls.specs.declared.Scored.{Scored}
-use Rattle.calls.specs.Outcomes.{Given, ends, Solves, queried}
+use Rattle.calls.specs.Outcomes.{Given, solvesOne, solvesMany, solvesWatching, queriesOne}
 
 module _ {B : Type 0} (g : Given State B) where
-  -- solve_single_source: a list of one source
+  -- solve_single_source
   abbrev pub solveSingleSource : ℕ → Settings → Left Solved B → Type 0
-  solveSingleSource source s = Solves (g .tests 0 or settings s) g (ends forward g s unwatched (source ∷ []))
+  solveSingleSource source s = solvesOne forward g source s
 
   -- solve_multi_source
   abbrev pub solveMultiSource : List ℕ → Settings → Left Solved B → Type 0
-  solveMultiSource sources s = Solves (g .tests (length sources) or settings s) g (ends forward g s unwatched sources)
+  solveMultiSource sources s = solvesMany forward g sources s
 
   -- solve_with_target: the target is watched
   abbrev pub solveWithTarget : ℕ → ℕ → Float → Settings → Left Solved B → Type 0
-  solveWithTarget source target p s = Solves (g .tests 0 or settings s or precision p) g (ends forward g s (watched target p) (source ∷ []))
+  solveWithTarget source target p s = solvesWatching forward g source target p s
 
   -- query_single_entry: the score of the target
   abbrev pub querySingleEntry : ℕ → ℕ → Settings → Left Scored B
-  querySingleEntry source target s = queried (g .tests 0 or settings s) g (ends forward g s unwatched (source ∷ [])) target
+  querySingleEntry source target s = queriesOne forward g source target s
 
 -- ---- extrapolated_solution
 

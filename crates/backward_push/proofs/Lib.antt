@@ -1,0 +1,3 @@
+-- The laws that the proofs of the backward solver share, and the theorem that each call has one outcome.
+pub mod Turning
+pub mod One

@@ -1,0 +1,35 @@
+-- The one outcome of each public call of the backward solver, whether it is given a list of links or rows: by its first number, and by the state that the
+-- rules' solve ends in. Assumes nothing.
+use Prim.Native.Nat.{ℕ}
+use mathlib.Core.List.{List, [], _∷_}
+use lib.Ieee.{Float}
+use Rattle.refusals.specs.Refusals.{_or_, settings}
+use Rattle.refusals.specs.Calls.{Left, left, call}
+use Rattle.refusals.specs.declared.Settings.{Settings}
+use Rattle.rules.specs.Ways.{backward}
+use Rattle.rules.specs.Rules.{State, unwatched}
+use Rattle.calls.specs.declared.Solved.{Solved}
+use Rattle.calls.specs.declared.Scored.{Scored}
+use Rattle.calls.specs.Outcomes.{Given, ends, solvesOne, solvesMany, solvesWatching, queriesOne}
+
+module _ {B : Type 0} (g : Given State B) where
+  -- solve_single_target
+  abbrev pub solveSingleTarget : ℕ → Settings → Left Solved B → Type 0
+  solveSingleTarget target s = solvesOne backward g target s
+
+  -- solve_multi_target
+  abbrev pub solveMultiTarget : List ℕ → Settings → Left Solved B → Type 0
+  solveMultiTarget targets s = solvesMany backward g targets s
+
+  -- solve_with_source: the source is watched
+  abbrev pub solveWithSource : ℕ → ℕ → Float → Settings → Left Solved B → Type 0
+  solveWithSource source target p s = solvesWatching backward g target source p s
+
+  -- query_transition_probability: the score of the source
+  abbrev pub queryTransitionProbability : ℕ → ℕ → Settings → Left Scored B
+  queryTransitionProbability source target s = queriesOne backward g target source s
+
+  -- reachability_probabilities: its number, and what `reaching` lends it for its answer
+  unfoldable pub reachabilityProbabilities : ℕ → Settings → Left ℕ B
+  reachabilityProbabilities target s =
+      call (g .tests 0 or settings s) (λ k. k) (g .before) (left 0 (g .after (ends backward g s unwatched (target ∷ []))))
