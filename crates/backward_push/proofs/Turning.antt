@@ -16,6 +16,7 @@ use Rattle.rules.specs.Rules.{State}
 use Rattle.calls.specs.declared.Counted.{Counted}
 use Rattle.calls.specs.Lent.{SolveLent, solveDone}
 use Rattle.calls.specs.Promises.{countsOf}
+use Rattle.calls.proofs.After.{done-estimate, done-residual}
 use Rattle.calls.proofs.Directed.{Directed, sums-long, sums-are}
 use Rattle.backward_push.specs.Lent.{backLent, backDone}
 use Rattle.backward_push.specs.Promises.{Turned}
@@ -43,6 +44,16 @@ pub back-left : (n m : ℕ) (s : State) {r : Counted} {b : SolveLent} {reverse-s
 unfolding backDone
 back-left n m s {reverse-starts = rs} {reverse-columns = rc} {reverse-weights = rv} {outs = o} d es ec ew eo =
     ap (λ (x : Left Counted SolveLent). left (x .answer) (backLent rs rc rv o (x .lent))) d ∙ rw (es, ec, ew, eo)
+
+-- where the two vectors stand in it
+module _ (n m : ℕ) (estimate residual : List Float) where
+  pub back-estimate : backDone n m (solveDone n estimate residual) .solve .estimate ≡ estimate
+  unfolding backDone
+  back-estimate = done-estimate n estimate residual
+
+  pub back-residual : backDone n m (solveDone n estimate residual) .solve .residual ≡ residual
+  unfolding backDone
+  back-residual = done-residual n estimate residual
 
 -- rows that were made of links can be turned, in buffers as long
 pub made-turnable : {n j : ℕ} {rows : List (List Entry)} {from to starts columns nodes starts′ columns′ positions nodes′ reverse-starts reverse-columns : List ℕ}

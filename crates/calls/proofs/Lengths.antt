@@ -62,6 +62,16 @@ unfolding told unlike
 told-unlike true = refl
 told-unlike false = refl
 
+-- nothing is tested besides
+pub none-besides : false ≡ unlike false []
+unfolding unlike
+none-besides = refl
+
+-- one length is
+pub one-besides : (k n : ℕ) → not (eqb k n) ≡ unlike false ((k, n) ∷ [])
+unfolding unlike
+one-besides k n = refl
+
 -- the lengths behind others are as stated
 alike-behind : (ps qs : List (ℕ × ℕ)) → Alike (ps ++ qs) → Alike qs
 alike-behind [] qs h = h

@@ -8,6 +8,7 @@ ghost use lib.ListN.{length, getD};
 ghost use Rattle.numbers.specs.Numbers.{+0};
 ghost use Rattle.refusals.specs.Refusals.{unlike};
 ghost use Rattle.rules.specs.Rules as Rules;
+ghost use Rattle.rules.specs.Answers.{extrapolated};
 ghost use Rattle.solver.specs.States.{watchIn};
 ghost use Rattle.solver.specs.Buffers.{Rows};
 ghost use Rattle.solver.specs.Meant.{Stands};
@@ -154,6 +155,18 @@ pub fn answered(refusal: u32, estimate: &[f64], v: u32) -> Scored
     Scored {
         refusal: 0,
         score: score_at(estimate, v),
+    }
+}
+
+// The solution that the residual of a solve lets expect: the estimate and alpha times the residual, node by node.
+pub fn extrapolate(estimate: &[f64], residual: &[f64], alpha: f64, solution: &mut [f64])
+    requires { ⌜ (length (now residual) ≡ length (now estimate)) × (length (now solution) ≡ length (now estimate)) ⌝ }
+    ensures { λ _. ⌜ now (solution .exit) ≡ extrapolated alpha (length (now (estimate .entry))) (now (estimate .entry)) (now (residual .entry)) ⌝ }
+{
+    let mut v: usize = 0;
+    while v < estimate.len() {
+        solution[v] = estimate[v] + alpha * residual[v];
+        v += 1;
     }
 }
 

@@ -1,4 +1,4 @@
--- `forward_push::extrapolation::extrapolate` meets its contract. Invariant: the first v numbers are written (`over`). Assumes nothing.
+-- `calls::extrapolate` meets its contract. Invariant: the first v numbers are written (`over`). Assumes nothing.
 use Prim.Native.Nat.{_-_, _≤_, _<_, zero-le}
 use mathlib.Core.Path.{_≡_, refl, sym, _∙_}
 use native.Mathlib.Omega.{arith}
@@ -9,8 +9,8 @@ use Rattle.numbers.proofs.Tables.{length-tabulate, getD-tabulate}
 use Rattle.numbers.proofs.Over.{over, over-none, over-more, over-whole}
 use Rattle.rules.specs.Answers.{extrapolated}
 use borrow.Author.Needs.{needs}
-use Rattle.forward_push.proofs.extrapolation.extrapolate.Statement.{statement}
-use Rattle.forward_push.proofs.extrapolation.extrapolate.Tie as tie
+use Rattle.calls.proofs.extrapolate.Statement.{statement}
+use Rattle.calls.proofs.extrapolate.Tie as tie
 
 abbrev Inv-loop : tie.InvT-loop
 Inv-loop estimate residual alpha solution₀ v₀ solution v =
