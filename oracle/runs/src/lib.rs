@@ -1,7 +1,8 @@
-//! What the programs `compare` and `measure` share.
+//! What the programs `compare`, `measure` and `record` share.
 pub mod comparison;
 pub mod entries;
 pub mod lent;
 pub mod patterns;
 pub mod random;
+pub mod settings;
 pub mod timing;

@@ -1,6 +1,6 @@
 //! A buffer that a call was lent to write, and how its contents differ from what they should be.
-use super::entry::Kind;
 use super::outcome::Contents;
+use super::shape::Kind;
 use runs::comparison::same;
 use runs::lent::{Lent, Word};
 use Buffer::{Real, Whole, Wide};

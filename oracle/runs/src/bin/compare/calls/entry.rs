@@ -1,4 +1,5 @@
-//! The entries that take a graph, and the buffers that each reads and writes.
+//! The entries that take a graph: which there are, what they are asked, and what each is called.
+use super::shape::{self, Shape};
 
 #[derive(Clone, Copy, PartialEq, Eq)]
 pub enum Entry {
@@ -6,16 +7,35 @@ pub enum Entry {
     FromMatrix,
     Transpose,
     RowSums,
-    Forward(Question, Form),
+    Solve(Question, Form),
 }
 
-/// What a solve is asked.
+/// Which way a solve pushes. One that pushes both ways has two settings records and two pairs of vectors.
+#[derive(Clone, Copy, PartialEq, Eq, Debug)]
+pub enum Solver {
+    Forward,
+    Backward,
+    Bidirectional,
+}
+
+/// What a solver is asked.
 #[derive(Clone, Copy, PartialEq, Eq)]
-pub enum Question {
+pub struct Question {
+    pub solver: Solver,
+    pub task: Task,
+}
+
+/// A solve from one node or from many, with a watched node, one score, or every score extrapolated; of both ways, the
+/// two put together, or what the degrees decide.
+#[derive(Clone, Copy, PartialEq, Eq)]
+pub enum Task {
     Single,
     Multi,
     Watched,
     Query,
+    Reachability,
+    Together,
+    Adaptive,
 }
 
 /// What a solve is given: a list of links, or rows.
@@ -26,158 +46,113 @@ pub enum Form {
 }
 
 pub const BUILDERS: [Entry; 4] = [Entry::FromEdges, Entry::FromMatrix, Entry::Transpose, Entry::RowSums];
-pub const QUESTIONS: [Question; 4] = [Question::Single, Question::Multi, Question::Watched, Question::Query];
-pub const FORWARD: [Entry; 8] = [
-    Entry::Forward(Question::Single, Form::Links),
-    Entry::Forward(Question::Multi, Form::Links),
-    Entry::Forward(Question::Watched, Form::Links),
-    Entry::Forward(Question::Query, Form::Links),
-    Entry::Forward(Question::Single, Form::Rows),
-    Entry::Forward(Question::Multi, Form::Rows),
-    Entry::Forward(Question::Watched, Form::Rows),
-    Entry::Forward(Question::Query, Form::Rows),
-];
 
-/// A stated length, for n nodes and m listed links.
-#[derive(Clone, Copy, PartialEq, Eq)]
-pub enum Size {
-    /// n
-    Nodes,
-    /// n + 1
-    Starts,
-    /// m
-    Links,
-    /// n / 64, rounded up
-    Words,
+impl Solver {
+    pub fn name(self) -> &'static str {
+        match self {
+            Solver::Forward => "forward",
+            Solver::Backward => "backward",
+            Solver::Bidirectional => "bidirectional",
+        }
+    }
+
+    pub fn questions(self) -> Vec<Question> {
+        use Task::{Adaptive, Multi, Query, Reachability, Single, Together, Watched};
+        let tasks: &[Task] = match self {
+            Solver::Forward => &[Single, Multi, Watched, Query],
+            Solver::Backward => &[Single, Multi, Watched, Query, Reachability],
+            Solver::Bidirectional => &[Together, Adaptive],
+        };
+        tasks.iter().map(|&task| Question { solver: self, task }).collect()
+    }
+
+    /// The first of its questions: a call that is made into each of them begins as this.
+    pub fn first_question(self) -> Question {
+        self.questions()[0]
+    }
+
+    pub fn entries(self) -> Vec<Entry> {
+        let of = |form: Form| self.questions().into_iter().map(move |question| Entry::Solve(question, form));
+        of(Form::Links).chain(of(Form::Rows)).collect()
+    }
 }
 
-impl Size {
-    pub fn of(self, nodes: u32, links: usize) -> usize {
-        match self {
-            Size::Nodes => nodes as usize,
-            Size::Starts => nodes as usize + 1,
-            Size::Links => links,
-            Size::Words => (nodes as usize).div_ceil(64),
+impl Question {
+    fn name(self) -> &'static str {
+        match (self.task, self.solver) {
+            (Task::Single, Solver::Forward) => "solve_single_source",
+            (Task::Multi, Solver::Forward) => "solve_multi_source",
+            (Task::Watched, Solver::Forward) => "solve_with_target",
+            (Task::Query, Solver::Forward) => "query_single_entry",
+            (Task::Single, _) => "solve_single_target",
+            (Task::Multi, _) => "solve_multi_target",
+            (Task::Watched, _) => "solve_with_source",
+            (Task::Query, _) => "query_transition_probability",
+            (Task::Reachability, _) => "reachability_probabilities",
+            (Task::Together, _) => "solve_bidirectional",
+            (Task::Adaptive, _) => "adaptive_solve",
         }
     }
 }
 
-/// What a buffer holds: u32, u64 or f64.
-#[derive(Clone, Copy, PartialEq, Eq)]
-pub enum Kind {
-    Whole,
-    Wide,
-    Real,
-}
-
-/// A buffer's name, its stated length, and what it holds.
-pub struct Shape {
-    pub name: &'static str,
-    pub size: Size,
-    pub kind: Kind,
-}
-
-const fn whole(name: &'static str, size: Size) -> Shape {
-    Shape { name, size, kind: Kind::Whole }
-}
-
-const fn wide(name: &'static str, size: Size) -> Shape {
-    Shape { name, size, kind: Kind::Wide }
-}
-
-const fn real(name: &'static str, size: Size) -> Shape {
-    Shape { name, size, kind: Kind::Real }
-}
-
-const LIST: [Shape; 3] = [whole("from", Size::Links), whole("to", Size::Links), real("weight", Size::Links)];
-const ROWS: [Shape; 3] = [whole("starts", Size::Starts), whole("columns", Size::Links), real("weights", Size::Links)];
-const FROM_EDGES: [Shape; 4] = [
-    whole("starts", Size::Starts),
-    whole("columns", Size::Links),
-    real("weights", Size::Links),
-    whole("positions", Size::Nodes),
-];
-const FROM_MATRIX: [Shape; 6] = [
-    whole("reverse_starts", Size::Starts),
-    whole("reverse_columns", Size::Links),
-    real("reverse_weights", Size::Links),
-    real("degrees", Size::Nodes),
-    real("reverse_degrees", Size::Nodes),
-    whole("positions", Size::Nodes),
-];
-const TRANSPOSE: [Shape; 4] = [
-    whole("reverse_starts", Size::Starts),
-    whole("reverse_columns", Size::Links),
-    real("reverse_weights", Size::Links),
-    whole("positions", Size::Nodes),
-];
-const ROW_SUMS: [Shape; 1] = [real("degrees", Size::Nodes)];
-const SOLVE_LINKS: [Shape; 10] = [
-    real("estimate", Size::Nodes),
-    real("residual", Size::Nodes),
-    whole("starts", Size::Starts),
-    whole("columns", Size::Links),
-    real("weights", Size::Links),
-    real("degrees", Size::Nodes),
-    real("priorities", Size::Nodes),
-    whole("nodes", Size::Nodes),
-    wide("queued", Size::Words),
-    wide("visited", Size::Words),
-];
-const SOLVE_ROWS: [Shape; 7] = [
-    real("estimate", Size::Nodes),
-    real("residual", Size::Nodes),
-    real("degrees", Size::Nodes),
-    real("priorities", Size::Nodes),
-    whole("nodes", Size::Nodes),
-    wide("queued", Size::Words),
-    wide("visited", Size::Words),
-];
-
 impl Entry {
-    pub fn name(self) -> &'static str {
+    pub fn name(self) -> String {
         match self {
-            Entry::FromEdges => "from_edges",
-            Entry::FromMatrix => "from_matrix",
-            Entry::Transpose => "transpose",
-            Entry::RowSums => "row_sums",
-            Entry::Forward(Question::Single, Form::Links) => "solve_single_source_links",
-            Entry::Forward(Question::Multi, Form::Links) => "solve_multi_source_links",
-            Entry::Forward(Question::Watched, Form::Links) => "solve_with_target_links",
-            Entry::Forward(Question::Query, Form::Links) => "query_single_entry_links",
-            Entry::Forward(Question::Single, Form::Rows) => "solve_single_source_rows",
-            Entry::Forward(Question::Multi, Form::Rows) => "solve_multi_source_rows",
-            Entry::Forward(Question::Watched, Form::Rows) => "solve_with_target_rows",
-            Entry::Forward(Question::Query, Form::Rows) => "query_single_entry_rows",
+            Entry::FromEdges => "from_edges".to_string(),
+            Entry::FromMatrix => "from_matrix".to_string(),
+            Entry::Transpose => "transpose".to_string(),
+            Entry::RowSums => "row_sums".to_string(),
+            Entry::Solve(question, Form::Links) => format!("{}_links", question.name()),
+            Entry::Solve(question, Form::Rows) => format!("{}_rows", question.name()),
         }
     }
 
     pub fn takes_rows(self) -> bool {
-        !matches!(self, Entry::FromEdges | Entry::Forward(_, Form::Links))
+        !matches!(self, Entry::FromEdges | Entry::Solve(_, Form::Links))
     }
 
     /// What it is asked, where it is a solve.
-    pub fn question(self) -> Option<Question> {
+    pub fn task(self) -> Option<Task> {
         match self {
-            Entry::Forward(question, _) => Some(question),
+            Entry::Solve(question, _) => Some(question.task),
             _ => None,
         }
     }
 
+    /// Whether it has a second settings record.
+    pub fn pushes_both_ways(self) -> bool {
+        matches!(self, Entry::Solve(Question { solver: Solver::Bidirectional, .. }, _))
+    }
+
     /// The three buffers of its graph, which it reads.
     pub fn given(self) -> &'static [Shape; 3] {
-        if self.takes_rows() { &ROWS } else { &LIST }
+        if self.takes_rows() { &shape::ROWS } else { &shape::LIST }
     }
 
     /// The buffers that it writes, in the order of its parameters: those of its answer, and then workspace.
-    pub fn written(self) -> &'static [Shape] {
+    pub fn written(self) -> Vec<Shape> {
         match self {
-            Entry::FromEdges => &FROM_EDGES,
-            Entry::FromMatrix => &FROM_MATRIX,
-            Entry::Transpose => &TRANSPOSE,
-            Entry::RowSums => &ROW_SUMS,
-            Entry::Forward(_, Form::Links) => &SOLVE_LINKS,
-            Entry::Forward(_, Form::Rows) => &SOLVE_ROWS,
+            Entry::FromEdges => [&shape::ROWS[..], &shape::POSITIONS].concat(),
+            Entry::FromMatrix => {
+                [&shape::REVERSE_ROWS[..], &shape::DEGREES, &shape::REVERSE_DEGREES, &shape::POSITIONS].concat()
+            }
+            Entry::Transpose => [&shape::REVERSE_ROWS[..], &shape::POSITIONS].concat(),
+            Entry::RowSums => shape::DEGREES.to_vec(),
+            Entry::Solve(question, form) => solve_written(question, form),
         }
     }
+}
+
+fn solve_written(question: Question, form: Form) -> Vec<Shape> {
+    let answer = match question {
+        Question { task: Task::Reachability, .. } => [&shape::PAIR[..], &shape::SOLUTION].concat(),
+        Question { solver: Solver::Bidirectional, .. } => shape::PAIRS.to_vec(),
+        _ => shape::PAIR.to_vec(),
+    };
+    let rows = if form == Form::Links { &shape::ROWS[..] } else { &[] };
+    let degrees = match question.solver {
+        Solver::Forward => shape::DEGREES.to_vec(),
+        _ => [&shape::REVERSE_ROWS[..], &shape::BOTH_DEGREES].concat(),
+    };
+    [&answer, rows, &degrees, &shape::QUEUE].concat()
 }
