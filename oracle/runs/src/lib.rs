@@ -1,4 +1,5 @@
 //! What the programs `compare`, `measure` and `record` share.
+pub mod calls;
 pub mod comparison;
 pub mod entries;
 pub mod lent;

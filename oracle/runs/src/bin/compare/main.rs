@@ -12,7 +12,7 @@ mod solves;
 mod square_root;
 mod vectors;
 
-use calls::entry::Solver;
+use runs::calls::entry::Solver;
 use runs::comparison::Comparison;
 use runs::random::Random;
 

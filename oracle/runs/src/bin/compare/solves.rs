@@ -1,20 +1,21 @@
 //! The calls of the forward, backward and bidirectional solvers against the Rust's, and against the refusals of
 //! docs/RULES.md. Each call is compared whole: what it returns, and every word of every buffer.
 mod adaptive;
-mod approach;
 mod boundaries;
 mod expected;
 mod watched;
 
-use crate::calls::call::{Call, Wish};
-use crate::calls::entry::{Entry, Form, Question, Solver, Task};
+use adaptive::Layout;
+use crate::Asked;
+use crate::calls::made::Made;
 use crate::calls::refusal::{misread, refusal};
 use crate::calls::smaller::smaller;
 use crate::calls::sound::{MOST_LINKS, MOST_NODES, MOST_OF_MANY};
-use crate::calls::{damaged, given, limits, lists, wishes};
-use crate::Asked;
-use adaptive::Layout;
-use expected::Theirs;
+use crate::calls::{damaged, limits, lists, wishes};
+use runs::calls::call::{Call, Wish};
+use runs::calls::entry::{Entry, Form, Question, Solver, Task};
+use runs::calls::theirs::Theirs;
+use runs::calls::{approach, given};
 use runs::comparison::Comparison;
 use runs::entries::Settings;
 use runs::random::Random;
@@ -257,7 +258,7 @@ fn of_graph_spoiling(call: &Call, spoiled: Option<Entry>) -> Option<String> {
         let outcome = theirs.done(&call.wish, question);
         forms.iter_mut().find_map(|form| {
             form.ask(question);
-            let mut made = form.made();
+            let mut made = Made::of(form);
             if spoiled == Some(form.entry) && form.nodes == 2 {
                 made.spoil();
             }
@@ -268,7 +269,7 @@ fn of_graph_spoiling(call: &Call, spoiled: Option<Entry>) -> Option<String> {
 
 /// One call of any kind.
 fn of_call(call: &Call) -> Option<String> {
-    call.made().difference(&expected::outcome(call))
+    Made::of(call).difference(&expected::outcome(call))
 }
 
 /// A call whose number docs/RULES.md gives: what is expected of damaged calls is held to it too.

@@ -1,12 +1,12 @@
 //! Calls that break the conditions of docs/RULES.md: each refusal number, each two at once, and several.
-use super::call::Call;
-use super::entry::{Task, Entry};
+use runs::calls::call::Call;
+use runs::calls::entry::{Task, Entry};
+use runs::random::Random;
 use super::refusal::applies;
 use super::sound::{
     buffers, sound, with_length, with_links, with_nodes, MOST_LINKS, MOST_NODES, MOST_OF_MANY, MOST_PUSHES,
 };
 use super::wishes::{records, SettingsOf};
-use runs::random::Random;
 
 /// What makes a sound call break the condition of `number`. Damages of lower numbers go first: they set the sizes.
 pub struct Damage {

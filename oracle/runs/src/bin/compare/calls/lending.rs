@@ -1,7 +1,7 @@
 //! Hands the buffers of a call to its entry, one after the other, in the order of the parameters.
-use super::buffer::Buffer::{self, Real, Whole, Wide};
 use runs::entries::{Pair, QueueBuffers, RowBuffers};
 use std::slice::IterMut;
+use super::buffer::Buffer::{self, Real, Whole, Wide};
 
 pub struct Lending<'a>(IterMut<'a, Buffer>);
 

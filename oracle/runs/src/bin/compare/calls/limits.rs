@@ -1,7 +1,7 @@
 //! Calls at the limits that docs/RULES.md sets to sizes, lengths, weights and rows, on both sides of each.
-use super::call::{Call, Wish};
-use super::entry::{Task, Entry};
-use super::shape::Size;
+use runs::calls::call::{Call, Wish};
+use runs::calls::entry::{Task, Entry};
+use runs::calls::shape::Size;
 use super::sound::{buffers, least, sound, with_length, with_links, with_nodes, MOST_LINKS, MOST_NODES};
 use super::wishes::records;
 

@@ -1,10 +1,10 @@
 //! A call that was made: what it returned, what it left in every buffer, and how that differs from an expected outcome.
-use super::buffer::Buffer::{self, Real};
-use super::call::Call;
-use super::make::{make, Read};
-use super::outcome::{Outcome, Returned};
-use super::shape::Shape;
+use runs::calls::call::Call;
+use runs::calls::outcome::{Outcome, Returned};
+use runs::calls::shape::Shape;
 use runs::lent::{Lent, Word};
+use super::buffer::Buffer::{self, Real};
+use super::make::{make, Read};
 
 pub struct Made<'a> {
     call: &'a Call,
@@ -16,20 +16,19 @@ pub struct Made<'a> {
     returned: Returned,
 }
 
-impl Call {
-    pub fn made(&self) -> Made<'_> {
-        let (first, second) = (Lent::holding(&self.first), Lent::holding(&self.second));
-        let (weights, many) = (Lent::holding(&self.weights), Lent::holding(&self.wish.many));
+impl<'a> Made<'a> {
+    /// Makes the call.
+    pub fn of(call: &'a Call) -> Self {
+        let (first, second) = (Lent::holding(&call.first), Lent::holding(&call.second));
+        let (weights, many) = (Lent::holding(&call.weights), Lent::holding(&call.wish.many));
         let lend = |(shape, &length): (&Shape, &usize)| Buffer::patterned(shape.kind, length);
-        let mut written: Vec<Buffer> = self.entry.written().iter().zip(&self.lengths).map(lend).collect();
+        let mut written: Vec<Buffer> = call.entry.written().iter().zip(&call.lengths).map(lend).collect();
         let read =
             Read { first: first.slice(), second: second.slice(), weights: weights.slice(), many: many.slice() };
-        let returned = make(self, &read, &mut written);
-        Made { call: self, first, second, weights, many, written, returned }
+        let returned = make(call, &read, &mut written);
+        Self { call, first, second, weights, many, written, returned }
     }
-}
 
-impl Made<'_> {
     /// What differs from the expected outcome, if anything.
     pub fn difference(&self, expected: &Outcome) -> Option<String> {
         let entry = self.call.entry;

@@ -1,10 +1,10 @@
 //! Makes a call: passes what it is given, and lends its buffers, to the entry that it names.
-use super::buffer::Buffer;
-use super::call::Call;
-use super::entry::{Task, Entry, Form, Question, Solver};
-use super::lending::Lending;
-use super::outcome::Returned::{self, Built, Number, Scored, Solved};
+use runs::calls::call::Call;
+use runs::calls::entry::{Task, Entry, Form, Question, Solver};
+use runs::calls::outcome::Returned::{self, Built, Number, Scored, Solved};
 use runs::entries::{self, Links, Rows};
+use super::buffer::Buffer;
+use super::lending::Lending;
 
 /// The lists that a call is lent to read.
 pub struct Read<'a> {

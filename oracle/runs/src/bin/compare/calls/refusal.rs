@@ -1,7 +1,7 @@
 //! The refusal number of a call, as docs/RULES.md lists them. The Rust has none.
-use super::call::Call;
-use super::entry::Task;
-use super::shape::Shape;
+use runs::calls::call::Call;
+use runs::calls::entry::Task;
+use runs::calls::shape::Shape;
 use runs::entries::Settings;
 
 /// Whether the condition of a refusal number holds, whatever else does.

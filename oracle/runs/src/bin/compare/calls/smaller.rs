@@ -1,9 +1,9 @@
 //! Calls smaller than a given one, sound or damaged: fewer links, fewer nodes, a buffer of its stated length, plainer
 //! weights, lower ends, a plainer wish. Each is a call of its own, whose outcome is worked out anew.
-use super::call::{Call, Wish, PLAIN_SETTINGS};
-use super::wishes::{records, SettingsOf};
+use runs::calls::call::{Call, Wish, PLAIN_SETTINGS};
 use runs::comparison::same;
 use std::ops::Range;
+use super::wishes::{records, SettingsOf};
 
 /// Up to so many links, each link is tried by itself.
 const FEW: usize = 64;

@@ -1,7 +1,7 @@
 //! Small sound calls, and how one is given another size: to be damaged, or to meet a limit.
-use super::call::Call;
-use super::entry::Entry;
-use super::shape::Size;
+use runs::calls::call::Call;
+use runs::calls::entry::Entry;
+use runs::calls::shape::Size;
 
 pub const MOST_NODES: u32 = 65_536;
 pub const MOST_LINKS: usize = 1_048_576;

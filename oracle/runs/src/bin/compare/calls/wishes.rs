@@ -1,10 +1,10 @@
 //! What a solve is given beside its graph: at the limits, a few values of each, or drawn.
-use super::call::{Call, Wish};
-use super::entry::{Task, Entry};
-use super::refusal::refusal;
-use super::sound::{sound, MOST_PUSHES};
+use runs::calls::call::{Call, Wish};
+use runs::calls::entry::{Task, Entry};
 use runs::entries::Settings;
 use runs::random::Random;
+use super::refusal::refusal;
+use super::sound::{sound, MOST_PUSHES};
 
 /// Every alpha at a limit or next to one, and every kind that is refused.
 pub const ALPHAS: [f64; 18] = [
@@ -135,6 +135,16 @@ pub fn grid() -> Vec<Settings> {
 
 pub fn one_of<T: Copy>(random: &mut Random, choices: &[T]) -> T {
     choices[random.below(choices.len() as u64) as usize]
+}
+
+/// The next number up from one that is not below zero.
+pub fn next_up(number: f64) -> f64 {
+    f64::from_bits(number.to_bits() + 1)
+}
+
+/// The next number down, or zero.
+pub fn next_down(number: f64) -> f64 {
+    f64::from_bits(number.to_bits().saturating_sub(1))
 }
 
 /// A wish for the graph of the call, of any settings.

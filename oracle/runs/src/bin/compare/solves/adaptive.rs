@@ -1,11 +1,11 @@
 //! Graphs and settings with which the threshold adapts: long queues, short ones, and those at the very size at which it
 //! begins to. Each kind is held to what that does to the number of pushes, so that it is known to happen.
-use super::expected::Theirs;
-use crate::calls::call::{Call, Wish};
-use crate::calls::entry::{Solver, Task};
-use crate::calls::given::graph;
 use crate::calls::lists;
 use crate::calls::wishes::one_of;
+use runs::calls::call::{Call, Wish};
+use runs::calls::entry::{Solver, Task};
+use runs::calls::given::graph;
+use runs::calls::theirs::Theirs;
 use runs::entries::Settings;
 use runs::random::Random;
 

@@ -1,10 +1,10 @@
 //! Graphs in which one of the two degrees that `adaptive_solve` compares, the source's and the target's, is twice the
 //! other, or the next number up or down: there it turns from one approach to another.
-use super::approach::Approach;
-use crate::calls::call::{Call, Wish};
-use crate::calls::entry::Solver;
-use crate::calls::given;
-use crate::calls::wishes::{self, one_of};
+use crate::calls::wishes::{self, next_down, next_up, one_of};
+use runs::calls::approach::Approach;
+use runs::calls::call::{Call, Wish};
+use runs::calls::entry::Solver;
+use runs::calls::given;
 use runs::random::Random;
 
 /// The weights of the links that leave the source, and of those that arrive at the target.
@@ -43,14 +43,6 @@ fn lesser(random: &mut Random) -> Vec<f64> {
         2 => (0..1 + random.below(4)).map(|_| (1 + random.below(10)) as f64 / 10.0).collect(),
         _ => (0..1 + random.below(4)).map(|_| random.unit()).collect(),
     }
-}
-
-fn next_up(number: f64) -> f64 {
-    f64::from_bits(number.to_bits() + 1)
-}
-
-fn next_down(number: f64) -> f64 {
-    f64::from_bits(number.to_bits().saturating_sub(1))
 }
 
 /// The number as one weight, or as two halves where these give it exactly; none of it where it is zero, now and then.

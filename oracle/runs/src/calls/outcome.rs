@@ -1,7 +1,7 @@
 //! What a call comes to: what it returns, and what it leaves in its buffers.
 use super::entry::{Task, Entry, Question};
-use runs::comparison::same;
-use runs::entries::{Built, Scored, Solved};
+use crate::comparison::same;
+use crate::entries::{Built, Scored, Solved};
 
 /// What a call is to come to. A refusal leaves every buffer as it was.
 pub enum Outcome {

@@ -1,7 +1,7 @@
 //! One call of an entry that takes a graph: what it is given, and how long the buffers are that it is lent.
 use super::entry::{Entry, Form, Question};
 use repaired::graph::CompressedSparseRow;
-use runs::entries::Settings;
+use crate::entries::Settings;
 use std::fmt::{Debug, Formatter, Result};
 
 /// A call, sound or damaged.
