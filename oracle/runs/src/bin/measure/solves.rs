@@ -26,11 +26,17 @@ pub fn measure(random: &mut Random) {
     of_size(random, "65,536 nodes, 1,048,576 links", 65_536, 1_048_576, [11, 15, 11, 7]);
 }
 
-/// Each side once, for a tool that counts instructions.
+/// Each side once, for a tool that counts instructions. By the default settings a backward solve is over after few pushes:
+/// nothing is below a threshold of zero, so it makes them all.
 pub fn once(random: &mut Random, call: Call) {
     let edges = drawn(random, 65_536, 262_144);
-    let (ends, settings) = (Ends { source: 0, target: 0 }, Settings { max_pushes: 100_000, ..Settings::DEFAULT });
+    let (ends, default) = (Ends { source: 0, target: 0 }, Settings { max_pushes: 100_000, ..Settings::DEFAULT });
+    let settings = match call {
+        Call::Backward => Settings { epsilon: 0.0, queue_threshold: 0.0, ..default },
+        _ => default,
+    };
     let theirs = Theirs::new(call, PushGraph::from_edges(65_536, &edges), &settings).solve(call, ends);
+    println!("{}, {} pushes", call.name(), theirs.pushes);
     let mut ours = Ours::new(65_536, &edges, CompressedSparseRow::new(65_536, 65_536));
     agree(&ours.solve_links(call, ends, settings), &theirs);
 }
