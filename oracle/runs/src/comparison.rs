@@ -56,6 +56,17 @@ impl Comparison {
         }
     }
 
+    /// Demands that each of the named things was reached by the inputs so far.
+    pub fn reached(&mut self, name: &str, counts: &[(&str, u64)]) {
+        let listed: Vec<String> = counts.iter().map(|(thing, count)| format!("{thing} {count}")).collect();
+        println!("{name}: {}", listed.join(", "));
+        if counts.iter().any(|(_, count)| *count == 0) {
+            println!("  one of them was never reached");
+            return self.differs();
+        }
+        self.kinds += 1;
+    }
+
     fn differs(&mut self) {
         match &mut self.planted {
             Some(planted) => planted.found += 1,

@@ -2,16 +2,17 @@
 //! and against the refusals of docs/RULES.md. Each call is compared whole: what it returns, and every word of every buffer.
 mod expected;
 
-use crate::calls::call::Call;
-use crate::calls::entry::{Entry, BUILDERS};
-use crate::calls::given::{graph_of_links, matrix};
-use crate::calls::outcome::Outcome;
+use crate::Asked;
+use crate::calls::made::Made;
 use crate::calls::refusal::{misread, refusal};
 use crate::calls::smaller::smaller;
 use crate::calls::sound::{MOST_LINKS, MOST_NODES};
 use crate::calls::{damaged, limits, lists};
-use crate::Asked;
 use repaired::graph::PushGraph;
+use runs::calls::call::Call;
+use runs::calls::entry::{Entry, BUILDERS};
+use runs::calls::given::{graph_of_links, matrix};
+use runs::calls::outcome::Outcome;
 use runs::comparison::Comparison;
 use runs::random::Random;
 
@@ -100,7 +101,7 @@ fn of_links(call: &Call) -> Option<String> {
         return of_call(call);
     }
     let graph = graph_of_links(call);
-    call.made().difference(&expected::built(&graph.adjacency, call.links())).or_else(|| on_rows_of(&graph))
+    Made::of(call).difference(&expected::built(&graph.adjacency, call.links())).or_else(|| on_rows_of(&graph))
 }
 
 /// The three entries that take rows, on the rows of a call of any one of them.
@@ -113,7 +114,7 @@ fn of_rows(call: &Call) -> Option<String> {
 
 fn on_rows_of(graph: &PushGraph) -> Option<String> {
     let rows = &graph.adjacency;
-    let differs = |entry: Entry, outcome: Outcome| Call::on_matrix(entry, rows).made().difference(&outcome);
+    let differs = |entry: Entry, outcome: Outcome| Made::of(&Call::on_matrix(entry, rows)).difference(&outcome);
     differs(Entry::FromMatrix, expected::graph(graph))
         .or_else(|| differs(Entry::Transpose, expected::transposed(&rows.transpose())))
         .or_else(|| differs(Entry::RowSums, expected::sums(rows.row_sums())))
@@ -121,7 +122,7 @@ fn on_rows_of(graph: &PushGraph) -> Option<String> {
 
 /// One call of any kind.
 fn of_call(call: &Call) -> Option<String> {
-    call.made().difference(&expected::outcome(call))
+    Made::of(call).difference(&expected::outcome(call))
 }
 
 /// A call whose number docs/RULES.md gives: what is expected of damaged calls is held to it too.

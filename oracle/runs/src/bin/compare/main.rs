@@ -3,16 +3,21 @@
 //! compare [full] [seed N] [planted]
 //!
 //! Without `full` it runs the share that the gate runs. `planted` puts one wrong digit into some of the proved
-//! library's answers, of the square root and then of each call of the forward solver, to show that a difference is
-//! found: the program must then fail, and it does so only where each is found.
+//! library's answers, of the square root and then of each call of the solvers, to show that a difference is found: the
+//! program must then fail, and it does so only where each is found.
 mod calls;
-mod forward;
 mod graph;
 mod norm;
+mod solves;
 mod square_root;
+mod vectors;
 
+use runs::calls::entry::Solver;
 use runs::comparison::Comparison;
 use runs::random::Random;
+
+const SOLVERS: [Solver; 3] = [Solver::Forward, Solver::Backward, Solver::Bidirectional];
+const VECTORS: [vectors::Entry; 2] = [vectors::Entry::Extrapolated, vectors::Entry::Combined];
 
 /// What a run was asked for.
 pub struct Asked {
@@ -43,13 +48,23 @@ fn main() {
     if asked.planted {
         let mut comparison = Comparison::of_planted();
         square_root::planted(&mut comparison, &mut random);
-        forward::planted(&mut comparison, &mut random);
+        for solver in SOLVERS {
+            solves::planted(solver, &mut comparison, &mut random);
+        }
+        for entry in VECTORS {
+            vectors::planted(entry, &mut comparison, &mut random);
+        }
         return comparison.finish();
     }
     let mut comparison = Comparison::new();
     square_root::compare(&asked, &mut comparison, &mut random);
     norm::compare(&asked, &mut comparison, &mut random);
     graph::compare(&asked, &mut comparison, &mut random);
-    forward::compare(&asked, &mut comparison, &mut random);
+    for entry in VECTORS {
+        vectors::compare(&asked, entry, &mut comparison, &mut random);
+    }
+    for solver in SOLVERS {
+        solves::compare(&asked, solver, &mut comparison, &mut random);
+    }
     comparison.finish();
 }

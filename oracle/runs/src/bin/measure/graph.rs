@@ -1,7 +1,8 @@
 //! `from_edges` and `from_matrix` beside the Rust's `PushGraph`, on random links: time, and memory beyond the inputs.
 use crate::heap::peak;
+use crate::space::RowSpace;
 use repaired::graph::PushGraph;
-use runs::entries;
+use runs::entries::{self, Links, Rows};
 use runs::random::Random;
 use runs::timing::interleaved;
 use std::hint::black_box;
@@ -13,12 +14,8 @@ struct Ours {
     from: Vec<u32>,
     to: Vec<u32>,
     weight: Vec<f64>,
-    starts: Vec<u32>,
-    columns: Vec<u32>,
-    weights: Vec<f64>,
-    reverse_starts: Vec<u32>,
-    reverse_columns: Vec<u32>,
-    reverse_weights: Vec<f64>,
+    rows: RowSpace,
+    reverse: RowSpace,
     degrees: Vec<f64>,
     reverse_degrees: Vec<f64>,
     positions: Vec<u32>,
@@ -77,12 +74,8 @@ impl Ours {
             from: edges.iter().map(|edge| edge.0 as u32).collect(),
             to: edges.iter().map(|edge| edge.1 as u32).collect(),
             weight: edges.iter().map(|edge| edge.2).collect(),
-            starts: vec![0; nodes + 1],
-            columns: vec![0; links],
-            weights: vec![0.0; links],
-            reverse_starts: vec![0; nodes + 1],
-            reverse_columns: vec![0; links],
-            reverse_weights: vec![0.0; links],
+            rows: RowSpace::new(nodes, links),
+            reverse: RowSpace::new(nodes, links),
             degrees: vec![0.0; nodes],
             reverse_degrees: vec![0.0; nodes],
             positions: vec![0; nodes],
@@ -91,29 +84,18 @@ impl Ours {
 
     /// `from_edges`; every link has both ends in range, so all are kept, and the rows are as long as the list.
     fn rows(&mut self) {
-        let built = entries::from_edges(
-            self.nodes,
-            black_box(&self.from),
-            &self.to,
-            &self.weight,
-            &mut self.starts,
-            &mut self.columns,
-            &mut self.weights,
-            &mut self.positions,
-        );
+        let given = Links { n: self.nodes, from: black_box(&self.from), to: &self.to, weight: &self.weight };
+        let built = entries::from_edges(given, self.rows.lend(), &mut self.positions);
         assert_eq!((built.refusal, built.kept as usize), (0, self.from.len()));
     }
 
     /// `from_matrix`, on the rows that `rows` left.
     fn reverse(&mut self) {
+        let RowSpace { starts, columns, weights } = &self.rows;
+        let given = Rows { n: self.nodes, starts: black_box(starts), columns, weights };
         let refusal = entries::from_matrix(
-            self.nodes,
-            black_box(&self.starts),
-            &self.columns,
-            &self.weights,
-            &mut self.reverse_starts,
-            &mut self.reverse_columns,
-            &mut self.reverse_weights,
+            given,
+            self.reverse.lend(),
             &mut self.degrees,
             &mut self.reverse_degrees,
             &mut self.positions,
@@ -128,17 +110,12 @@ impl Ours {
 
     /// The bytes that `from_edges` is lent to write.
     fn rows_lent(&self) -> usize {
-        size_of_val(&self.starts[..])
-            + size_of_val(&self.columns[..])
-            + size_of_val(&self.weights[..])
-            + size_of_val(&self.positions[..])
+        self.rows.bytes() + size_of_val(&self.positions[..])
     }
 
     /// The bytes that `from_matrix` is lent to write.
     fn reverse_lent(&self) -> usize {
-        size_of_val(&self.reverse_starts[..])
-            + size_of_val(&self.reverse_columns[..])
-            + size_of_val(&self.reverse_weights[..])
+        self.reverse.bytes()
             + size_of_val(&self.degrees[..])
             + size_of_val(&self.reverse_degrees[..])
             + size_of_val(&self.positions[..])

@@ -1,18 +1,22 @@
 //! Measures the proved library beside the Rust, in one run. A ratio above 1 says that the proved library takes longer.
 //!
-//! measure [once graph | once forward]
+//! measure [once graph | once forward | once backward]
 //!
 //! With `once` each side works once, untimed, for a tool that counts instructions: `graph` builds the largest graph,
-//! `forward` solves one of 65,536 nodes and 262,144 links.
-mod forward;
+//! `forward` and `backward` solve one of 65,536 nodes and 262,144 links.
 mod graph;
 mod heap;
+mod ours;
+mod solves;
+mod space;
+mod theirs;
 
 use runs::entries;
 use runs::random::Random;
 use runs::timing::interleaved;
 use std::env;
 use std::hint::black_box;
+use theirs::Call;
 
 const ROUNDS: usize = 101;
 
@@ -23,8 +27,9 @@ fn main() {
     match words[..] {
         [] => measure(&mut random),
         ["once", "graph"] => graph::once(&mut random),
-        ["once", "forward"] => forward::once(&mut random),
-        _ => panic!("measure [once graph | once forward]"),
+        ["once", "forward"] => solves::once(&mut random, Call::Forward),
+        ["once", "backward"] => solves::once(&mut random, Call::Backward),
+        _ => panic!("measure [once graph | once forward | once backward]"),
     }
 }
 
@@ -32,7 +37,7 @@ fn measure(random: &mut Random) {
     square_root(random);
     norm(random);
     graph::measure(random);
-    forward::measure(random);
+    solves::measure(random);
 }
 
 /// One call of the square root, against the machine's own instruction.

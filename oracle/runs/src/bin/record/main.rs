@@ -1,9 +1,13 @@
 //! Records what the repaired Rust answers, for programs of Rattle to replay through the proved library. A recording is
 //! seeded, so it comes out the same every time.
 //!
-//! `record queue > crates/queue_check/stdin`, `record forward > crates/forward_check/stdin`
+//! `record queue > crates/queue_check/stdin`, `record forward > crates/forward_check/stdin`,
+//! `record backward > crates/backward_check/stdin`
+mod backward;
 mod forward;
 mod queue;
+mod recorder;
+mod solves;
 
 use runs::random::Random;
 use std::io::{self, Write};
@@ -17,8 +21,9 @@ fn main() -> io::Result<()> {
     let recording = match env::args().nth(1).as_deref() {
         Some("queue") => queue::recording(),
         Some("forward") => forward::recording(),
+        Some("backward") => backward::recording(),
         _ => {
-            eprintln!("record queue, or record forward");
+            eprintln!("record queue, record forward, or record backward");
             process::exit(2)
         }
     };

@@ -1,9 +1,9 @@
 //! A buffer that a call was lent to write, and how its contents differ from what they should be.
-use super::entry::Kind;
-use super::outcome::Contents;
+use Buffer::{Real, Whole, Wide};
+use runs::calls::outcome::Contents;
+use runs::calls::shape::Kind;
 use runs::comparison::same;
 use runs::lent::{Lent, Word};
-use Buffer::{Real, Whole, Wide};
 
 pub enum Buffer {
     Whole(Lent<u32>),

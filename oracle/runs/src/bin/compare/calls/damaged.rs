@@ -1,11 +1,12 @@
 //! Calls that break the conditions of docs/RULES.md: each refusal number, each two at once, and several.
-use super::call::Call;
-use super::entry::{Entry, Question};
+use runs::calls::call::Call;
+use runs::calls::entry::{Task, Entry};
+use runs::random::Random;
 use super::refusal::applies;
 use super::sound::{
-    buffers, sound, with_length, with_links, with_nodes, MOST_LINKS, MOST_NODES, MOST_PUSHES, MOST_SOURCES,
+    buffers, sound, with_length, with_links, with_nodes, MOST_LINKS, MOST_NODES, MOST_OF_MANY, MOST_PUSHES,
 };
-use runs::random::Random;
+use super::wishes::{records, SettingsOf};
 
 /// What makes a sound call break the condition of `number`. Damages of lower numbers go first: they set the sizes.
 pub struct Damage {
@@ -37,8 +38,8 @@ fn of_sizes(entry: Entry) -> Vec<Damage> {
         damage(1, |call| *call = with_nodes(call.clone(), MOST_NODES + 1)),
         damage(1, |call| call.nodes = u32::MAX),
     ];
-    if entry.question() == Some(Question::Multi) {
-        found.push(damage(2, |call| call.wish.sources.resize(MOST_SOURCES + 1, 1)));
+    if entry.task() == Some(Task::Multi) {
+        found.push(damage(2, |call| call.wish.many.resize(MOST_OF_MANY + 1, 1)));
     }
     for buffer in 0..buffers(entry) {
         for by in [-1, 1] {
@@ -71,23 +72,27 @@ fn of_graphs(entry: Entry) -> Vec<Damage> {
 
 /// Damages of the numbers 6 and 7.
 fn of_wishes(entry: Entry) -> Vec<Damage> {
-    let mut found = Vec::new();
-    if entry.question().is_some() {
-        for alpha in [-5e-324, 1.0000000000000002, f64::NAN] {
-            found.push(damage(6, move |call| call.wish.settings.alpha = alpha));
-        }
-        for number in [-5e-324, f64::INFINITY, f64::NAN] {
-            found.push(damage(6, move |call| call.wish.settings.epsilon = number));
-            found.push(damage(6, move |call| call.wish.settings.queue_threshold = number));
-        }
-        for pushes in [MOST_PUSHES + 1, u64::MAX] {
-            found.push(damage(6, move |call| call.wish.settings.max_pushes = pushes));
-        }
-    }
-    if entry.question() == Some(Question::Watched) {
+    let mut found: Vec<Damage> = records(entry).into_iter().flat_map(of_settings).collect();
+    if entry.task() == Some(Task::Watched) {
         for precision in [-5e-324, f64::INFINITY, f64::NAN] {
             found.push(damage(7, move |call| call.wish.precision = precision));
         }
+    }
+    found
+}
+
+/// Damages of one settings record.
+fn of_settings(record: SettingsOf) -> Vec<Damage> {
+    let mut found = Vec::new();
+    for alpha in [-5e-324, 1.0000000000000002, f64::NAN] {
+        found.push(damage(6, move |call| record(&mut call.wish).alpha = alpha));
+    }
+    for number in [-5e-324, f64::INFINITY, f64::NAN] {
+        found.push(damage(6, move |call| record(&mut call.wish).epsilon = number));
+        found.push(damage(6, move |call| record(&mut call.wish).queue_threshold = number));
+    }
+    for pushes in [MOST_PUSHES + 1, u64::MAX] {
+        found.push(damage(6, move |call| record(&mut call.wish).max_pushes = pushes));
     }
     found
 }

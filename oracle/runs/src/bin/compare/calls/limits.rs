@@ -1,7 +1,9 @@
 //! Calls at the limits that docs/RULES.md sets to sizes, lengths, weights and rows, on both sides of each.
-use super::call::{Call, Wish};
-use super::entry::{Entry, Question, Size};
+use runs::calls::call::{Call, Wish};
+use runs::calls::entry::{Task, Entry};
+use runs::calls::shape::Size;
 use super::sound::{buffers, least, sound, with_length, with_links, with_nodes, MOST_LINKS, MOST_NODES};
+use super::wishes::records;
 
 /// Every weight at a limit or next to one, and every kind that is refused.
 const WEIGHTS: [f64; 20] = [
@@ -132,7 +134,7 @@ pub fn by_hand(entries: &[Entry]) -> Vec<(Call, u32)> {
     found
 }
 
-/// Those of a solve's settings, sources and precision.
+/// Those of a solve's settings, sources, targets and precision.
 fn wishes_by_hand(entry: Entry) -> Vec<(Call, u32)> {
     let wishing = |act: &dyn Fn(&mut Wish)| {
         let mut call = sound(entry);
@@ -140,17 +142,19 @@ fn wishes_by_hand(entry: Entry) -> Vec<(Call, u32)> {
         call
     };
     let mut found = Vec::new();
-    if let Some(question) = entry.question() {
-        found.push((wishing(&|wish| wish.settings.alpha = 0.0), 0));
-        found.push((wishing(&|wish| wish.settings.alpha = -0.0), 0));
-        found.push((wishing(&|wish| wish.settings.alpha = 1.0), 0));
-        found.push((wishing(&|wish| wish.settings.alpha = f64::from_bits(1f64.to_bits() + 1)), 6));
-        found.push((wishing(&|wish| wish.settings.max_pushes = 1_000_000_000), 0));
-        found.push((wishing(&|wish| wish.settings.max_pushes = 1_000_000_001), 6));
+    for record in records(entry) {
+        found.push((wishing(&|wish| record(wish).alpha = 0.0), 0));
+        found.push((wishing(&|wish| record(wish).alpha = -0.0), 0));
+        found.push((wishing(&|wish| record(wish).alpha = 1.0), 0));
+        found.push((wishing(&|wish| record(wish).alpha = f64::from_bits(1f64.to_bits() + 1)), 6));
+        found.push((wishing(&|wish| record(wish).max_pushes = 1_000_000_000), 0));
+        found.push((wishing(&|wish| record(wish).max_pushes = 1_000_000_001), 6));
+    }
+    if let Some(task) = entry.task() {
         found.push((wishing(&|wish| wish.precision = -0.0), 0));
-        found.push((wishing(&|wish| wish.precision = -1.0), if question == Question::Watched { 7 } else { 0 }));
-        found.push((wishing(&|wish| wish.sources = vec![1; 65_536]), 0));
-        found.push((wishing(&|wish| wish.sources = vec![1; 65_537]), if question == Question::Multi { 2 } else { 0 }));
+        found.push((wishing(&|wish| wish.precision = -1.0), if task == Task::Watched { 7 } else { 0 }));
+        found.push((wishing(&|wish| wish.many = vec![1; 65_536]), 0));
+        found.push((wishing(&|wish| wish.many = vec![1; 65_537]), if task == Task::Multi { 2 } else { 0 }));
         found.push((wishing(&|wish| wish.source = 3), 0));
         found.push((wishing(&|wish| wish.target = u32::MAX), 0));
     }

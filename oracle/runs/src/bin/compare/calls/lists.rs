@@ -1,6 +1,6 @@
 //! Link lists and rows, all of them sound: every small one, random ones, graphs with a plan.
-use super::call::Call;
-use super::entry::Entry;
+use runs::calls::call::Call;
+use runs::calls::entry::Entry;
 use runs::random::Random;
 
 /// Every list of up to `nodes` nodes and exactly `links` links, with ends up to the number of nodes, so also out of

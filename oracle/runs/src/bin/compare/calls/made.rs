@@ -1,163 +1,34 @@
 //! A call that was made: what it returned, what it left in every buffer, and how that differs from an expected outcome.
-use super::buffer::Buffer::{self, Real, Whole, Wide};
-use super::call::Call;
-use super::entry::{Entry, Form, Question, Shape};
-use super::outcome::{Outcome, Returned};
-use runs::entries::{self, Links, RowBuffers, Rows, SolveBuffers};
+use runs::calls::call::Call;
+use runs::calls::outcome::{Outcome, Returned};
+use runs::calls::shape::Shape;
 use runs::lent::{Lent, Word};
+use super::buffer::Buffer::{self, Real};
+use super::make::{make, Read};
 
 pub struct Made<'a> {
     call: &'a Call,
     first: Lent<u32>,
     second: Lent<u32>,
     weights: Lent<f64>,
-    sources: Lent<u32>,
+    many: Lent<u32>,
     written: Vec<Buffer>,
     returned: Returned,
 }
 
-impl Call {
-    pub fn made(&self) -> Made<'_> {
-        let (first, second) = (Lent::holding(&self.first), Lent::holding(&self.second));
-        let (weights, sources) = (Lent::holding(&self.weights), Lent::holding(&self.wish.sources));
+impl<'a> Made<'a> {
+    /// Makes the call.
+    pub fn of(call: &'a Call) -> Self {
+        let (first, second) = (Lent::holding(&call.first), Lent::holding(&call.second));
+        let (weights, many) = (Lent::holding(&call.weights), Lent::holding(&call.wish.many));
         let lend = |(shape, &length): (&Shape, &usize)| Buffer::patterned(shape.kind, length);
-        let mut written: Vec<Buffer> = self.entry.written().iter().zip(&self.lengths).map(lend).collect();
-        let returned = self.make(first.slice(), second.slice(), weights.slice(), sources.slice(), &mut written);
-        Made { call: self, first, second, weights, sources, written, returned }
+        let mut written: Vec<Buffer> = call.entry.written().iter().zip(&call.lengths).map(lend).collect();
+        let read =
+            Read { first: first.slice(), second: second.slice(), weights: weights.slice(), many: many.slice() };
+        let returned = make(call, &read, &mut written);
+        Self { call, first, second, weights, many, written, returned }
     }
 
-    fn make(
-        &self,
-        first: &[u32],
-        second: &[u32],
-        weights: &[f64],
-        sources: &[u32],
-        written: &mut [Buffer],
-    ) -> Returned {
-        match self.entry {
-            Entry::Forward(question, Form::Links) => {
-                let given = Links { n: self.nodes, from: first, to: second, weight: weights };
-                self.solve_links(question, given, sources, written)
-            }
-            Entry::Forward(question, Form::Rows) => {
-                let given = Rows { n: self.nodes, starts: first, columns: second, weights };
-                self.solve_rows(question, given, sources, written)
-            }
-            _ => self.build(first, second, weights, written),
-        }
-    }
-
-    fn build(&self, first: &[u32], second: &[u32], weights: &[f64], written: &mut [Buffer]) -> Returned {
-        match (self.entry, written) {
-            (Entry::FromEdges, [Whole(starts), Whole(columns), Real(kept), Whole(positions)]) => {
-                Returned::Built(entries::from_edges(
-                    self.nodes,
-                    first,
-                    second,
-                    weights,
-                    starts.slice_mut(),
-                    columns.slice_mut(),
-                    kept.slice_mut(),
-                    positions.slice_mut(),
-                ))
-            }
-            (
-                Entry::FromMatrix,
-                [Whole(starts), Whole(columns), Real(reversed), Real(degrees), Real(reverse_degrees), Whole(positions)],
-            ) => Returned::Number(entries::from_matrix(
-                self.nodes,
-                first,
-                second,
-                weights,
-                starts.slice_mut(),
-                columns.slice_mut(),
-                reversed.slice_mut(),
-                degrees.slice_mut(),
-                reverse_degrees.slice_mut(),
-                positions.slice_mut(),
-            )),
-            (Entry::Transpose, [Whole(starts), Whole(columns), Real(reversed), Whole(positions)]) => {
-                Returned::Number(entries::transpose(
-                    self.nodes,
-                    first,
-                    second,
-                    weights,
-                    starts.slice_mut(),
-                    columns.slice_mut(),
-                    reversed.slice_mut(),
-                    positions.slice_mut(),
-                ))
-            }
-            (Entry::RowSums, [Real(degrees)]) => {
-                Returned::Number(entries::row_sums(self.nodes, first, second, weights, degrees.slice_mut()))
-            }
-            _ => unreachable!("the buffers are made for the entry"),
-        }
-    }
-
-    fn solve_links(&self, question: Question, given: Links, sources: &[u32], written: &mut [Buffer]) -> Returned {
-        let [estimate, residual, Whole(starts), Whole(columns), Real(weights), rest @ ..] = written else {
-            unreachable!("the buffers are made for the entry")
-        };
-        let lent = solve_buffers(estimate, residual, rest);
-        let (starts, columns, weights) = (starts.slice_mut(), columns.slice_mut(), weights.slice_mut());
-        let rows = RowBuffers { starts, columns, weights };
-        let wish = &self.wish;
-        let (source, target, precision, settings) = (wish.source, wish.target, wish.precision, wish.settings);
-        match question {
-            Question::Single => {
-                Returned::Solved(entries::solve_single_source_links(given, source, settings, lent, rows))
-            }
-            Question::Multi => {
-                Returned::Solved(entries::solve_multi_source_links(given, sources, settings, lent, rows))
-            }
-            Question::Watched => Returned::Solved(entries::solve_with_target_links(
-                given, source, target, precision, settings, lent, rows,
-            )),
-            Question::Query => {
-                Returned::Scored(entries::query_single_entry_links(given, source, target, settings, lent, rows))
-            }
-        }
-    }
-
-    fn solve_rows(&self, question: Question, given: Rows, sources: &[u32], written: &mut [Buffer]) -> Returned {
-        let [estimate, residual, rest @ ..] = written else { unreachable!("the buffers are made for the entry") };
-        let lent = solve_buffers(estimate, residual, rest);
-        let wish = &self.wish;
-        let (source, target, precision, settings) = (wish.source, wish.target, wish.precision, wish.settings);
-        match question {
-            Question::Single => Returned::Solved(entries::solve_single_source_rows(given, source, settings, lent)),
-            Question::Multi => Returned::Solved(entries::solve_multi_source_rows(given, sources, settings, lent)),
-            Question::Watched => Returned::Solved(entries::solve_with_target_rows(
-                given, source, target, precision, settings, lent,
-            )),
-            Question::Query => {
-                Returned::Scored(entries::query_single_entry_rows(given, source, target, settings, lent))
-            }
-        }
-    }
-}
-
-fn solve_buffers<'a>(estimate: &'a mut Buffer, residual: &'a mut Buffer, rest: &'a mut [Buffer]) -> SolveBuffers<'a> {
-    match (estimate, residual, rest) {
-        (
-            Real(estimate),
-            Real(residual),
-            [Real(degrees), Real(priorities), Whole(nodes), Wide(queued), Wide(visited)],
-        ) => SolveBuffers {
-            estimate: estimate.slice_mut(),
-            residual: residual.slice_mut(),
-            degrees: degrees.slice_mut(),
-            priorities: priorities.slice_mut(),
-            nodes: nodes.slice_mut(),
-            queued: queued.slice_mut(),
-            visited: visited.slice_mut(),
-        },
-        _ => unreachable!("the buffers are made for the entry"),
-    }
-}
-
-impl Made<'_> {
     /// What differs from the expected outcome, if anything.
     pub fn difference(&self, expected: &Outcome) -> Option<String> {
         let entry = self.call.entry;
@@ -196,8 +67,8 @@ impl Made<'_> {
             altered(&self.weights, &call.weights),
         ];
         let of_graph = call.entry.given().iter().zip(graph).find(|(_, altered)| *altered);
-        let sources = altered(&self.sources, &call.wish.sources).then_some("sources");
-        of_graph.map(|(shape, _)| shape.name).or(sources)
+        let many = altered(&self.many, &call.wish.many).then_some("the list of sources or targets");
+        of_graph.map(|(shape, _)| shape.name).or(many)
     }
 
     /// Turns the last digit of the first number that the call has written.

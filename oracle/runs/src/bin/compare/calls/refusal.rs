@@ -1,14 +1,15 @@
 //! The refusal number of a call, as docs/RULES.md lists them. The Rust has none.
-use super::call::Call;
-use super::entry::{Question, Shape};
+use runs::calls::call::Call;
+use runs::calls::entry::Task;
+use runs::calls::shape::Shape;
 use runs::entries::Settings;
 
 /// Whether the condition of a refusal number holds, whatever else does.
 pub fn applies(number: u32, call: &Call) -> bool {
-    let question = call.entry.question();
+    let task = call.entry.task();
     match number {
         1 => call.nodes > 65_536,
-        2 => call.links() > 1_048_576 || question == Some(Question::Multi) && call.wish.sources.len() > 65_536,
+        2 => call.links() > 1_048_576 || task == Some(Task::Multi) && call.wish.many.len() > 65_536,
         3 => {
             let given = [call.first.len(), call.second.len(), call.weights.len()];
             let right = |(shape, length): (&Shape, usize)| shape.size.of(call.nodes, call.links()) == length;
@@ -25,11 +26,11 @@ pub fn applies(number: u32, call: &Call) -> bool {
             let refused = |w: f64| w.is_nan() || w.is_infinite() || w < 0.0 || w > 1_048_576.0;
             call.weights.iter().any(|&weight| refused(weight))
         }
-        6 if question.is_some() => {
-            let Settings { alpha, epsilon, queue_threshold, max_pushes, .. } = call.wish.settings;
-            alpha_refused(alpha) || refused(epsilon) || refused(queue_threshold) || max_pushes > 1_000_000_000
+        6 if task.is_some() => {
+            let second = call.entry.pushes_both_ways() && settings_refused(&call.wish.backward_settings);
+            second || settings_refused(&call.wish.settings)
         }
-        7 if question == Some(Question::Watched) => refused(call.wish.precision),
+        7 if task == Some(Task::Watched) => refused(call.wish.precision),
         _ => false,
     }
 }
@@ -43,6 +44,11 @@ pub fn refusal(call: &Call) -> u32 {
 pub fn misread(call: &Call, number: u32) -> Option<String> {
     let read = refusal(call);
     (read != number).then(|| format!("refusal.rs gives {read}, docs/RULES.md {number}"))
+}
+
+fn settings_refused(settings: &Settings) -> bool {
+    let Settings { alpha, epsilon, queue_threshold, max_pushes, .. } = *settings;
+    alpha_refused(alpha) || refused(epsilon) || refused(queue_threshold) || max_pushes > 1_000_000_000
 }
 
 /// Whether an alpha is not in 0..1, both of them included.

@@ -1,8 +1,9 @@
 //! Calls smaller than a given one, sound or damaged: fewer links, fewer nodes, a buffer of its stated length, plainer
 //! weights, lower ends, a plainer wish. Each is a call of its own, whose outcome is worked out anew.
-use super::call::{Call, Wish, PLAIN_SETTINGS};
+use runs::calls::call::{Call, Wish, PLAIN_SETTINGS};
 use runs::comparison::same;
 use std::ops::Range;
+use super::wishes::{records, SettingsOf};
 
 /// Up to so many links, each link is tried by itself.
 const FEW: usize = 64;
@@ -19,7 +20,7 @@ pub fn smaller(call: &Call) -> Vec<Call> {
     let (firsts, seconds) = (0..few(call.first.len()), 0..few(call.second.len()));
     found.extend(firsts.filter_map(|place| with_lower(call, |smaller| &mut smaller.first[place])));
     found.extend(seconds.filter_map(|place| with_lower(call, |smaller| &mut smaller.second[place])));
-    if call.entry.question().is_some() {
+    if call.entry.task().is_some() {
         found.extend(with_smaller_wishes(call));
     }
     found
@@ -88,7 +89,7 @@ fn without_nodes(call: &Call, cut: Range<usize>) -> Call {
         smaller.first.iter_mut().for_each(lower);
     }
     smaller.second.iter_mut().for_each(lower);
-    smaller.wish.sources.iter_mut().for_each(lower);
+    smaller.wish.many.iter_mut().for_each(lower);
     lower(&mut smaller.wish.source);
     lower(&mut smaller.wish.target);
     shortened(call, smaller)
@@ -139,34 +140,49 @@ fn with_lower(call: &Call, word: impl Fn(&mut Call) -> &mut u32) -> Option<Call>
 }
 
 fn with_smaller_wishes(call: &Call) -> Vec<Call> {
-    let mut found: Vec<Call> = chunks(call.wish.sources.len()).iter().map(|cut| without_sources(call, cut)).collect();
-    let sources = 0..few(call.wish.sources.len());
-    found.extend(sources.filter_map(|place| with_lower(call, |smaller| &mut smaller.wish.sources[place])));
+    let mut found: Vec<Call> = chunks(call.wish.many.len()).iter().map(|cut| without_many(call, cut)).collect();
+    let many = 0..few(call.wish.many.len());
+    found.extend(many.filter_map(|place| with_lower(call, |smaller| &mut smaller.wish.many[place])));
     found.extend(with_lower(call, |smaller| &mut smaller.wish.source));
     found.extend(with_lower(call, |smaller| &mut smaller.wish.target));
-    let settings = &call.wish.settings;
-    let plain = |same: bool, act: fn(&mut Wish)| (!same).then(|| with_wish(call, act));
-    found.extend(plain(same(call.wish.precision, 0.25), |wish| wish.precision = 0.25));
-    found.extend(plain(same(settings.alpha, PLAIN_SETTINGS.alpha), |wish| wish.settings.alpha = PLAIN_SETTINGS.alpha));
-    found.extend(plain(same(settings.epsilon, PLAIN_SETTINGS.epsilon), |wish| {
-        wish.settings.epsilon = PLAIN_SETTINGS.epsilon;
-    }));
-    found.extend(plain(same(settings.queue_threshold, PLAIN_SETTINGS.queue_threshold), |wish| {
-        wish.settings.queue_threshold = PLAIN_SETTINGS.queue_threshold;
-    }));
-    found.extend(plain(!settings.adaptive_threshold, |wish| wish.settings.adaptive_threshold = false));
-    found.extend(plain(settings.max_pushes == 0, |wish| wish.settings.max_pushes /= 2));
-    found.extend(plain(settings.max_pushes == 0, |wish| wish.settings.max_pushes -= 1));
+    if !same(call.wish.precision, 0.25) {
+        found.push(with_wish(call, |wish| wish.precision = 0.25));
+    }
+    found.extend(records(call.entry).into_iter().flat_map(|record| with_plainer(call, record)));
     found
 }
 
-fn without_sources(call: &Call, cut: &Range<usize>) -> Call {
+/// The call with each part of one settings record made plain, and with fewer pushes.
+fn with_plainer(call: &Call, record: SettingsOf) -> Vec<Call> {
+    let settings = *record(&mut call.wish.clone());
+    let plain = PLAIN_SETTINGS;
+    let mut found = Vec::new();
+    if !same(settings.alpha, plain.alpha) {
+        found.push(with_wish(call, |wish| record(wish).alpha = plain.alpha));
+    }
+    if !same(settings.epsilon, plain.epsilon) {
+        found.push(with_wish(call, |wish| record(wish).epsilon = plain.epsilon));
+    }
+    if !same(settings.queue_threshold, plain.queue_threshold) {
+        found.push(with_wish(call, |wish| record(wish).queue_threshold = plain.queue_threshold));
+    }
+    if settings.adaptive_threshold {
+        found.push(with_wish(call, |wish| record(wish).adaptive_threshold = false));
+    }
+    if settings.max_pushes != 0 {
+        found.push(with_wish(call, |wish| record(wish).max_pushes /= 2));
+        found.push(with_wish(call, |wish| record(wish).max_pushes -= 1));
+    }
+    found
+}
+
+fn without_many(call: &Call, cut: &Range<usize>) -> Call {
     let mut smaller = call.clone();
-    remove(&mut smaller.wish.sources, cut);
+    remove(&mut smaller.wish.many, cut);
     smaller
 }
 
-fn with_wish(call: &Call, act: fn(&mut Wish)) -> Call {
+fn with_wish(call: &Call, act: impl Fn(&mut Wish)) -> Call {
     let mut smaller = call.clone();
     act(&mut smaller.wish);
     smaller

@@ -1,10 +1,12 @@
 //! Small sound calls, and how one is given another size: to be damaged, or to meet a limit.
-use super::call::Call;
-use super::entry::{Entry, Size};
+use runs::calls::call::Call;
+use runs::calls::entry::Entry;
+use runs::calls::shape::Size;
 
 pub const MOST_NODES: u32 = 65_536;
 pub const MOST_LINKS: usize = 1_048_576;
-pub const MOST_SOURCES: usize = 65_536;
+/// Of sources, or of targets.
+pub const MOST_OF_MANY: usize = 65_536;
 pub const MOST_PUSHES: u64 = 1_000_000_000;
 
 /// A small sound call: three nodes, four links, in the list also three that are not kept.

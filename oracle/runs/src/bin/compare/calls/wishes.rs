@@ -1,10 +1,10 @@
 //! What a solve is given beside its graph: at the limits, a few values of each, or drawn.
-use super::call::{Call, Wish};
-use super::entry::{Entry, Question};
-use super::refusal::refusal;
-use super::sound::{sound, MOST_PUSHES};
+use runs::calls::call::{Call, Wish};
+use runs::calls::entry::{Task, Entry};
 use runs::entries::Settings;
 use runs::random::Random;
+use super::refusal::refusal;
+use super::sound::{sound, MOST_PUSHES};
 
 /// Every alpha at a limit or next to one, and every kind that is refused.
 pub const ALPHAS: [f64; 18] = [
@@ -60,19 +60,37 @@ const PUSHES: [u64; 10] = [
     u64::MAX,
 ];
 
+/// One of the settings records of a wish.
+pub type SettingsOf = fn(&mut Wish) -> &mut Settings;
+
+/// Those that the entry takes.
+pub fn records(entry: Entry) -> Vec<SettingsOf> {
+    let (first, second): (SettingsOf, SettingsOf) = (|wish| &mut wish.settings, |wish| &mut wish.backward_settings);
+    match entry.task() {
+        None => Vec::new(),
+        Some(_) if entry.pushes_both_ways() => vec![first, second],
+        Some(_) => vec![first],
+    }
+}
+
 /// What changes one part of a wish.
 type Change = Box<dyn Fn(&mut Wish)>;
 
+fn changes<T: Copy + 'static>(values: &[T], act: impl Fn(&mut Wish, T) + Copy + 'static) -> Vec<Change> {
+    values.iter().map(|&value| Box::new(move |wish: &mut Wish| act(wish, value)) as Change).collect()
+}
+
 /// Every number at a limit, in each place of the small call and in each two.
 pub fn limits(entry: Entry) -> Vec<Call> {
-    let mut parts: Vec<Vec<Change>> = vec![
-        ALPHAS.map(|alpha| Box::new(move |wish: &mut Wish| wish.settings.alpha = alpha) as Change).into(),
-        NUMBERS.map(|number| Box::new(move |wish: &mut Wish| wish.settings.epsilon = number) as Change).into(),
-        NUMBERS.map(|number| Box::new(move |wish: &mut Wish| wish.settings.queue_threshold = number) as Change).into(),
-        PUSHES.map(|pushes| Box::new(move |wish: &mut Wish| wish.settings.max_pushes = pushes) as Change).into(),
-    ];
-    if entry.question() == Some(Question::Watched) {
-        parts.push(NUMBERS.map(|number| Box::new(move |wish: &mut Wish| wish.precision = number) as Change).into());
+    let mut parts: Vec<Vec<Change>> = Vec::new();
+    for record in records(entry) {
+        parts.push(changes(&ALPHAS, move |wish, alpha| record(wish).alpha = alpha));
+        parts.push(changes(&NUMBERS, move |wish, number| record(wish).epsilon = number));
+        parts.push(changes(&NUMBERS, move |wish, number| record(wish).queue_threshold = number));
+        parts.push(changes(&PUSHES, move |wish, pushes| record(wish).max_pushes = pushes));
+    }
+    if entry.task() == Some(Task::Watched) {
+        parts.push(changes(&NUMBERS, |wish, number| wish.precision = number));
     }
     let mut found = Vec::new();
     for (place, part) in parts.iter().enumerate() {
@@ -94,8 +112,8 @@ fn changed(entry: Entry, changes: &[&Change]) -> Call {
 
 /// Whether the call is over soon: a thousand million pushes are too many where alpha takes nothing.
 fn ends(call: &Call) -> bool {
-    let settings = &call.wish.settings;
-    settings.max_pushes <= 10_000 || settings.alpha >= 0.1 || refusal(call) != 0
+    let soon = |settings: &Settings| settings.max_pushes <= 10_000 || settings.alpha >= 0.1;
+    refusal(call) != 0 || records(call.entry).iter().all(|record| soon(record(&mut call.wish.clone())))
 }
 
 /// Settings of a few values each, all of them.
@@ -119,24 +137,38 @@ pub fn one_of<T: Copy>(random: &mut Random, choices: &[T]) -> T {
     choices[random.below(choices.len() as u64) as usize]
 }
 
+/// The next number up from one that is not below zero.
+pub fn next_up(number: f64) -> f64 {
+    f64::from_bits(number.to_bits() + 1)
+}
+
+/// The next number down, or zero.
+pub fn next_down(number: f64) -> f64 {
+    f64::from_bits(number.to_bits().saturating_sub(1))
+}
+
 /// A wish for the graph of the call, of any settings.
 pub fn drawn(random: &mut Random, call: &Call) -> Wish {
-    let settings = settings(random);
+    let settings = [settings(random), settings(random)];
     with_settings(random, call, settings)
 }
 
 /// A wish for the graph of the call, with these settings; as many pushes as do not take too long.
-pub fn with_settings(random: &mut Random, call: &Call, mut settings: Settings) -> Wish {
+pub fn with_settings(random: &mut Random, call: &Call, settings: [Settings; 2]) -> Wish {
     const STEPS: u64 = 4_000_000;
-    settings.max_pushes = settings.max_pushes.min(STEPS / longest_row(call).max(1));
+    let most = STEPS / longest_row(call).max(1);
+    let [settings, backward_settings] =
+        settings.map(|settings| Settings { max_pushes: settings.max_pushes.min(most), ..settings });
     let many = [0, 1, 2, 3, random.below(10), random.below(100)][random.below(6) as usize];
     let unit = random.unit();
+    let (source, other) = (node(random, call), node(random, call));
     Wish {
-        source: node(random, call),
-        sources: (0..many).map(|_| node(random, call)).collect(),
-        target: node(random, call),
+        source,
+        target: if random.below(8) == 0 { source } else { other },
+        many: (0..many).map(|_| node(random, call)).collect(),
         precision: one_of(random, &[0.0, -0.0, 5e-324, 1e-9, 1e-3 * unit, 0.1 * unit, unit, 1.0, f64::MAX]),
         settings,
+        backward_settings,
     }
 }
 
@@ -166,15 +198,20 @@ fn node(random: &mut Random, call: &Call) -> u32 {
     }
 }
 
-/// How many links the longest row has: a push goes through all of them.
+/// How many links the longest row has, or the longest reverse row: a push goes through all of them.
 fn longest_row(call: &Call) -> u64 {
-    if call.entry.takes_rows() {
+    let longest = |ends: &[u32]| {
+        let mut lengths = vec![0; call.nodes as usize];
+        for &end in ends.iter().filter(|&&end| end < call.nodes) {
+            lengths[end as usize] += 1;
+        }
+        lengths.into_iter().max().unwrap_or(0)
+    };
+    let row = if call.entry.takes_rows() {
         let lengths = call.first.windows(2).map(|pair| u64::from(pair[1].saturating_sub(pair[0])));
-        return lengths.max().unwrap_or(0);
-    }
-    let mut lengths = vec![0; call.nodes as usize];
-    for &from in call.first.iter().filter(|&&from| from < call.nodes) {
-        lengths[from as usize] += 1;
-    }
-    lengths.into_iter().max().unwrap_or(0)
+        lengths.max().unwrap_or(0)
+    } else {
+        longest(&call.first)
+    };
+    row.max(longest(&call.second))
 }

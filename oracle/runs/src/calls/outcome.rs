@@ -1,7 +1,7 @@
 //! What a call comes to: what it returns, and what it leaves in its buffers.
-use super::entry::{Entry, Question};
-use runs::comparison::same;
-use runs::entries::{Built, Scored, Solved};
+use super::entry::{Task, Entry, Question};
+use crate::comparison::same;
+use crate::entries::{Built, Scored, Solved};
 
 /// What a call is to come to. A refusal leaves every buffer as it was.
 pub enum Outcome {
@@ -31,10 +31,13 @@ impl Returned {
         match entry {
             Entry::FromEdges => Self::Built(Built { refusal, kept: 0 }),
             Entry::FromMatrix | Entry::Transpose | Entry::RowSums => Self::Number(refusal),
-            Entry::Forward(Question::Query, _) => Self::Scored(Scored { refusal, score: 0.0 }),
-            Entry::Forward(..) => {
-                Self::Solved(Solved { refusal, push_count: 0, nodes_visited: 0, residual_norm: 0.0 })
-            }
+            Entry::Solve(Question { task, .. }, _) => match task {
+                Task::Single | Task::Multi | Task::Watched => {
+                    Self::Solved(Solved { refusal, push_count: 0, nodes_visited: 0, residual_norm: 0.0 })
+                }
+                Task::Query | Task::Together | Task::Adaptive => Self::Scored(Scored { refusal, score: 0.0 }),
+                Task::Reachability => Self::Number(refusal),
+            },
         }
     }
 

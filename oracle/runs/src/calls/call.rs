@@ -1,7 +1,7 @@
 //! One call of an entry that takes a graph: what it is given, and how long the buffers are that it is lent.
 use super::entry::{Entry, Form, Question};
 use repaired::graph::CompressedSparseRow;
-use runs::entries::Settings;
+use crate::entries::Settings;
 use std::fmt::{Debug, Formatter, Result};
 
 /// A call, sound or damaged.
@@ -23,10 +23,14 @@ pub struct Call {
 #[derive(Clone)]
 pub struct Wish {
     pub source: u32,
-    pub sources: Vec<u32>,
     pub target: u32,
+    /// The sources of a solve from many, or the targets.
+    pub many: Vec<u32>,
+    /// That of the watched node.
     pub precision: f64,
     pub settings: Settings,
+    /// The second settings record, of a call that pushes both ways.
+    pub backward_settings: Settings,
 }
 
 pub const PLAIN_SETTINGS: Settings =
@@ -34,7 +38,14 @@ pub const PLAIN_SETTINGS: Settings =
 
 impl Default for Wish {
     fn default() -> Self {
-        Self { source: 0, sources: vec![2, 0], target: 2, precision: 0.25, settings: PLAIN_SETTINGS }
+        Self {
+            source: 0,
+            target: 2,
+            many: vec![2, 0],
+            precision: 0.25,
+            settings: PLAIN_SETTINGS,
+            backward_settings: PLAIN_SETTINGS,
+        }
     }
 }
 
@@ -63,16 +74,16 @@ impl Call {
         Self { entry, nodes, first, second, weights, wish, lengths: Vec::new() }.with_stated_lengths()
     }
 
-    /// A forward solve of the same graph.
+    /// A solve of the same graph.
     pub fn solving(mut self, question: Question) -> Self {
         self.ask(question);
         self
     }
 
-    /// Makes it a forward solve of its graph.
+    /// Makes it a solve of its graph.
     pub fn ask(&mut self, question: Question) {
         let form = if self.entry.takes_rows() { Form::Rows } else { Form::Links };
-        self.entry = Entry::Forward(question, form);
+        self.entry = Entry::Solve(question, form);
         self.lengths = self.stated();
     }
 
@@ -104,7 +115,7 @@ impl Debug for Call {
         write!(out, ", {} = {}", first.name, abridged(&self.first))?;
         write!(out, ", {} = {}", second.name, abridged(&self.second))?;
         write!(out, ", {} = {}", weights.name, abridged(&self.weights))?;
-        if self.entry.question().is_some() {
+        if self.entry.task().is_some() {
             write!(out, ", {:?}", self.wish)?;
         }
         for ((shape, &length), stated) in self.entry.written().iter().zip(&self.lengths).zip(self.stated()) {
@@ -118,9 +129,10 @@ impl Debug for Call {
 
 impl Debug for Wish {
     fn fmt(&self, out: &mut Formatter<'_>) -> Result {
-        let Self { source, sources, target, precision, settings } = self;
-        let sources = abridged(sources);
-        write!(out, "source {source}, sources {sources}, target {target}, precision {precision:?}, {settings:?}")
+        let Self { source, target, many, precision, settings, backward_settings } = self;
+        let many = abridged(many);
+        write!(out, "source {source}, target {target}, of many {many}, precision {precision:?}, {settings:?}")?;
+        write!(out, ", of both ways also {backward_settings:?}")
     }
 }
 

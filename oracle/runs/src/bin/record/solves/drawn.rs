@@ -1,11 +1,10 @@
 //! Small graphs, settings, sources and targets, drawn so that each kind that the push rules tell apart comes often.
-use super::call::{Call, Entry};
+use super::recorded::{Recorded, LINKS, NODES};
 use crate::one_of;
-use repaired::solver::forward_push::ForwardPushConfig;
+use runs::calls::call::Wish;
+use runs::calls::entry::{Entry, Question, Solver, Task};
+use runs::entries::Settings;
 use runs::random::Random;
-
-const MOST_NODES: u64 = 12;
-const MOST_LINKS: usize = 24;
 
 /// A node, and one time in 16 a number that is none.
 fn node(random: &mut Random, n: u32) -> u32 {
@@ -74,19 +73,19 @@ fn unplanned(random: &mut Random, n: u32) -> Vec<(u32, u32)> {
     let drawn = 1 + random.below(u64::from(n.max(1))) as u32;
     let whole = random.below(2) == 0;
     let end = |random: &mut Random| if whole { node(random, n) } else { random.below(u64::from(drawn)) as u32 };
-    (0..random.below(MOST_LINKS as u64 + 1)).map(|_| (end(random), end(random))).collect()
+    (0..random.below(LINKS as u64 + 1)).map(|_| (end(random), end(random))).collect()
 }
 
 pub fn links(random: &mut Random, n: u32) -> Vec<(u32, u32, f64)> {
     let mut ends = if n > 0 && random.below(3) == 0 { planned(random, n) } else { unplanned(random, n) };
-    ends.truncate(MOST_LINKS);
+    ends.truncate(LINKS);
     let weights = one_of(random, &WEIGHTS);
     ends.into_iter().map(|(from, to)| (from, to, weights.draw(random))).collect()
 }
 
 /// Settings of several kinds: by which a solve comes far, by which residuals meet epsilon and the threshold exactly, by
 /// which nothing but zeros is left to move, and any that are sound.
-pub fn settings(random: &mut Random) -> ForwardPushConfig {
+pub fn settings(random: &mut Random) -> Settings {
     let (unit, adaptive_threshold) = (random.unit(), random.below(2) == 0);
     let (alpha, epsilon, queue_threshold, max_pushes) = match random.below(5) {
         0 | 1 => (
@@ -114,7 +113,7 @@ pub fn settings(random: &mut Random) -> ForwardPushConfig {
             one_of(random, &[0, 1, 2, 3, 50, 640]),
         ),
     };
-    ForwardPushConfig { alpha, epsilon, max_pushes, queue_threshold, adaptive_threshold }
+    Settings { alpha, epsilon, queue_threshold, max_pushes, adaptive_threshold }
 }
 
 /// An end of a link, and one time in 4 any node.
@@ -125,90 +124,95 @@ fn end(random: &mut Random, n: u32, links: &[(u32, u32, f64)], which: impl Fn(&(
     which(&links[random.below(links.len() as u64) as usize])
 }
 
+/// Whether the entry begins at its target.
+fn starts_at_target(entry: Entry) -> bool {
+    matches!(entry, Entry::Solve(Question { solver: Solver::Backward, .. }, _))
+}
+
 /// A sound call of a solve: of a graph of no nodes now and then, and most often of several.
-pub fn solve(random: &mut Random, entry: Entry) -> Call {
-    let n = if random.below(20) == 0 { 0 } else { 1 + random.below(MOST_NODES) as u32 };
+pub fn solve(random: &mut Random, entry: Entry) -> Recorded {
+    let n = if random.below(20) == 0 { 0 } else { 1 + random.below(NODES as u64) as u32 };
     let links = links(random, n);
-    let settings = settings(random);
+    let first = settings(random);
     let source = end(random, n, &links, |link| link.0);
     let target = if random.below(4) == 0 { source } else { end(random, n, &links, |link| link.1) };
-    let count = if entry.takes_sources() { random.below(9) } else { 0 };
-    let sources: Vec<u32> = (0..count).map(|_| end(random, n, &links, |link| link.0)).collect();
-    let precision = if entry.watches() {
+    let count = if entry.task() == Some(Task::Multi) { random.below(9) } else { 0 };
+    let start = |link: &(u32, u32, f64)| if starts_at_target(entry) { link.1 } else { link.0 };
+    let many: Vec<u32> = (0..count).map(|_| end(random, n, &links, start)).collect();
+    let precision = if entry.task() == Some(Task::Watched) {
         one_of(random, &[0.0, -0.0, 5e-324, 1e-9, 1e-6, 1e-3, 0.05, 0.125, 0.25, 0.5, 2.0])
     } else {
         0.0
     };
-    Call::on_links(entry, n, &links, settings).from(source, target, &sources, precision)
+    let backward_settings = if entry.pushes_both_ways() { settings(random) } else { first };
+    Recorded::on_links(entry, n, &links, Wish { source, target, many, precision, settings: first, backward_settings })
 }
 
-/// A sound extrapolation: from the vectors of a solve, or from numbers of every size and both signs.
-pub fn extrapolation(random: &mut Random) -> Call {
-    let settings = settings(random);
-    if random.below(2) == 0 {
-        let solved = solve(random, Entry::SingleSourceLinks).answer();
-        return Call::on_vectors(&solved.estimate, &solved.residual, settings);
-    }
-    let n = random.below(MOST_NODES + 1);
-    let mut vector = || -> Vec<f64> {
-        let number = |_| match random.below(3) {
-            0 => one_of(random, &[0.0, -0.0, 5e-324, -f64::MIN_POSITIVE, f64::MAX, -f64::MAX, 1.0]),
-            1 => random.unit() - 0.5,
-            _ => f64::from_bits(random.below(f64::INFINITY.to_bits())) * one_of(random, &[1.0, -1.0]),
-        };
-        (0..n).map(number).collect()
-    };
-    let (estimate, residual) = (vector(), vector());
-    Call::on_vectors(&estimate, &residual, settings)
+/// Another solve of the same graph and wish, which takes it in the same form.
+pub fn other(solve: &Recorded, entry: Entry) -> Recorded {
+    let mut call = solve.call.clone();
+    call.entry = entry;
+    Recorded { call: call.with_stated_lengths(), read: solve.read }
+}
+
+/// The source and the target of a solve that begins at `start`.
+fn ends(entry: Entry, start: u32, other: u32) -> (u32, u32) {
+    if starts_at_target(entry) { (other, start) } else { (start, other) }
 }
 
 /// A sound solve along a chain that watches a node of it: the precision is what the node's estimate becomes at its push,
 /// where the solve goes on, or half of it, where it stops.
-pub fn watched(random: &mut Random, entry: Entry) -> Call {
+pub fn watched(random: &mut Random, entry: Entry) -> Recorded {
     let n = 2 + random.below(8) as u32;
     let links: Vec<_> = (1..n).map(|v| (v - 1, v, 1.0)).collect();
-    let settings = ForwardPushConfig {
+    let settings = Settings {
         alpha: 0.5,
         epsilon: 0.0,
         max_pushes: 20,
         queue_threshold: one_of(random, &[0.0, 1e-6]),
         adaptive_threshold: false,
     };
-    let target = random.below(u64::from(n) - 1) as u32;
-    let precision = one_of(random, &[1.0, 0.5]) / f64::from(2u32 << target);
-    Call::on_links(entry, n, &links, settings).from(0, target, &[], precision)
+    let steps = random.below(u64::from(n) - 1) as u32;
+    let precision = one_of(random, &[1.0, 0.5]) / f64::from(2u32 << steps);
+    let (source, target) = if starts_at_target(entry) { (n - 1 - steps, n - 1) } else { (0, steps) };
+    let wish = Wish { source, target, many: Vec::new(), precision, settings, backward_settings: settings };
+    Recorded::on_links(entry, n, &links, wish)
 }
 
 /// A sound solve up to the thousandth push or the second thousandth, where the threshold falls if it adapts. Along a ring
 /// the residual shrinks by the same factor at each push, so a threshold can be set just below or above what is left there.
-pub fn long(random: &mut Random, entry: Entry, adaptive: bool) -> Call {
+pub fn long(random: &mut Random, entry: Entry, adaptive: bool) -> Recorded {
     let n = 1 + random.below(6) as u32;
     let links: Vec<_> = (0..n).map(|v| (v, (v + 1) % n, 1.0)).collect();
     let alpha = 1e-3 * (0.5 + random.unit());
     let near = one_of(random, &[0.9999, 0.9999, 1.0001]);
     let left = |pushes: u32| (0..pushes).fold(near, |left, _| left * (1.0 - alpha));
     let threshold = one_of(random, &[left(1_000), left(1_000), left(2_000), left(2_000) / 0.9]);
-    let settings = ForwardPushConfig {
+    let settings = Settings {
         alpha,
         epsilon: 0.0,
         max_pushes: 2_500,
         queue_threshold: threshold,
         adaptive_threshold: adaptive,
     };
-    let (source, target) = (random.below(u64::from(n)) as u32, random.below(u64::from(n)) as u32);
+    let (start, other) = (random.below(u64::from(n)) as u32, random.below(u64::from(n)) as u32);
+    let (source, target) = ends(entry, start, other);
     let precision = one_of(random, &[1e-3, 1.0]);
-    Call::on_links(entry, n, &links, settings).from(source, target, &[source], precision)
+    let wish = Wish { source, target, many: vec![start], precision, settings, backward_settings: settings };
+    Recorded::on_links(entry, n, &links, wish)
 }
 
 /// A threshold at the floor below which it does not adapt, and the next one up, with a residual that meets it at the
 /// thousandth push.
-pub fn floor(entry: Entry, threshold: f64) -> Call {
-    let settings = ForwardPushConfig {
+pub fn floor(entry: Entry, threshold: f64) -> Recorded {
+    let settings = Settings {
         alpha: 0.02725,
         epsilon: 0.0,
         max_pushes: 2_500,
         queue_threshold: threshold,
         adaptive_threshold: true,
     };
-    Call::on_links(entry, 1, &[(0, 0, 1.0)], settings).from(0, 0, &[0], 2.0)
+    let many = vec![0];
+    let wish = Wish { source: 0, target: 0, many, precision: 2.0, settings, backward_settings: settings };
+    Recorded::on_links(entry, 1, &[(0, 0, 1.0)], wish)
 }

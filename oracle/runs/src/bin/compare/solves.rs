@@ -1,0 +1,278 @@
+//! The calls of the forward, backward and bidirectional solvers against the Rust's, and against the refusals of
+//! docs/RULES.md. Each call is compared whole: what it returns, and every word of every buffer.
+mod adaptive;
+mod boundaries;
+mod expected;
+mod watched;
+
+use adaptive::Layout;
+use crate::Asked;
+use crate::calls::made::Made;
+use crate::calls::refusal::{misread, refusal};
+use crate::calls::smaller::smaller;
+use crate::calls::sound::{MOST_LINKS, MOST_NODES, MOST_OF_MANY};
+use crate::calls::{damaged, limits, lists, wishes};
+use runs::calls::call::{Call, Wish};
+use runs::calls::entry::{Entry, Form, Question, Solver, Task};
+use runs::calls::theirs::Theirs;
+use runs::calls::{approach, given};
+use runs::comparison::Comparison;
+use runs::entries::Settings;
+use runs::random::Random;
+
+const FEW_WEIGHTS: [f64; 4] = [0.0, 0.5, 1.0, 3.0];
+
+/// What is compared of one solver's calls.
+struct Solves<'a> {
+    asked: &'a Asked,
+    solver: Solver,
+}
+
+pub fn compare(asked: &Asked, solver: Solver, comparison: &mut Comparison, random: &mut Random) {
+    let solves = Solves { asked, solver };
+    solves.small_graphs(comparison, random);
+    solves.refusals(comparison, random);
+    solves.random_graphs(comparison, random);
+    solves.adapting(comparison, random);
+    if solver == Solver::Bidirectional {
+        let inputs = boundaries::drawn(random, asked.size(5_000, 200_000));
+        solves.kind(comparison, "degrees at twice each other, and next to it", inputs.into_iter());
+    } else {
+        solves.watched_and_many(comparison, random);
+    }
+    solves.largest(comparison, random);
+    if solver == Solver::Bidirectional {
+        comparison.reached("adaptive_solve, each approach", &approach::taken());
+    }
+}
+
+/// Each call with a wrong digit in its answers on two nodes.
+pub fn planted(solver: Solver, comparison: &mut Comparison, random: &mut Random) {
+    for entry in solver.entries() {
+        let inputs = on_small_graphs(random, solver, 2, 1, 1);
+        let name = format!("{}, planted", entry.name());
+        comparison.kind(&name, inputs, |call| of_graph_spoiling(call, Some(entry)), smaller);
+    }
+}
+
+/// Every list of up to so many nodes and exactly so many links, each with so many settings of the grid.
+fn on_small_graphs(
+    random: &mut Random,
+    solver: Solver,
+    nodes: u32,
+    links: u32,
+    each: usize,
+) -> impl Iterator<Item = Call> + '_ {
+    let all = wishes::grid();
+    // Steps of 7 come to each place of the 600.
+    let mut grid = all.clone().into_iter().cycle().step_by(7);
+    lists::every(nodes, links, FEW_WEIGHTS).flat_map(move |graph| {
+        let chosen: Vec<Settings> = grid.by_ref().take(each).collect();
+        let call = graph.solving(solver.first_question());
+        let wished = |settings: Settings| {
+            let second = wishes::one_of(random, &all);
+            call.clone().wishing(wishes::with_settings(random, &call, [settings, second]))
+        };
+        chosen.into_iter().map(wished).collect::<Vec<_>>()
+    })
+}
+
+/// A solve of the graph, with a wish that is drawn.
+fn solving(random: &mut Random, solver: Solver, graph: Call) -> Call {
+    let call = graph.solving(solver.first_question());
+    let wish = wishes::drawn(random, &call);
+    call.wishing(wish)
+}
+
+impl Solves<'_> {
+    /// The number of inputs, as `Asked` has it; in the gate, a third of it where the core has been through the forward
+    /// solver's.
+    fn size(&self, gate: u64, full: u64) -> u64 {
+        self.asked.size(if self.solver == Solver::Forward { gate } else { gate.div_ceil(3) }, full)
+    }
+
+    /// Compares every call of the solver at each input.
+    fn kind(&self, comparison: &mut Comparison, name: &str, inputs: impl Iterator<Item = Call>) {
+        comparison.kind(&format!("{}, {name}", self.solver.name()), inputs, of_graph, smaller);
+    }
+
+    fn small_graphs(&self, comparison: &mut Comparison, random: &mut Random) {
+        let classes = [
+            (3, 0, self.size(600, 600)),
+            (3, 1, self.size(600, 600)),
+            (2, 2, self.size(120, 600)),
+            (3, 2, self.size(6, 600)),
+            (2, 3, self.asked.size(u64::from(self.solver == Solver::Forward), 60)),
+            (3, 3, self.asked.size(0, 4)),
+        ];
+        for (nodes, links, each) in classes.into_iter().filter(|class| class.2 > 0) {
+            let name = format!("every list of up to {nodes} nodes and {links} links, {each} settings each");
+            self.kind(comparison, &name, on_small_graphs(random, self.solver, nodes, links, each as usize));
+        }
+    }
+
+    fn refusals(&self, comparison: &mut Comparison, random: &mut Random) {
+        for entry in self.solver.entries() {
+            let mut kind = |name: &str, inputs: &mut dyn Iterator<Item = Call>| {
+                comparison.kind(&format!("{}, {name}", entry.name()), inputs, of_call, smaller);
+            };
+            kind("limits of weight, in each place", &mut limits::weights(entry).into_iter());
+            kind("limits of settings and precision, each two", &mut wishes::limits(entry).into_iter());
+            kind("each length, and each two", &mut limits::lengths(entry).into_iter());
+            kind("each damage", &mut damaged::singles(entry).into_iter());
+            kind("each two damages", &mut damaged::pairs(entry, self.asked.full));
+            let all = damaged::damages(entry);
+            let several = (0..self.size(2_000, 50_000)).map(|_| damaged::several(random, entry, &all));
+            kind("several damages", &mut several.into_iter());
+            if entry.takes_rows() {
+                let nodes = self.asked.size(2, 3) as u32;
+                let name = format!("every rows of up to {nodes} nodes and 3 links, sound or not");
+                kind(&name, &mut limits::every_rows(entry, nodes, 3));
+            }
+        }
+    }
+
+    fn random_graphs(&self, comparison: &mut Comparison, random: &mut Random) {
+        let classes = [
+            (1, 8, self.size(3_000, 100_000)),
+            (8, 40, self.size(20_000, 500_000)),
+            (64, 400, self.size(3_000, 60_000)),
+            (1_000, 10_000, self.size(100, 3_000)),
+            (MOST_NODES, 100_000, self.size(5, 150)),
+            (MOST_NODES, MOST_LINKS, self.size(1, 20)),
+        ];
+        for (nodes, links, count) in classes {
+            // One in three is of exactly the size.
+            let inputs = (0..count).map(|number| {
+                let graph = lists::random(random, nodes, links, number % 3 == 0);
+                solving(random, self.solver, graph)
+            });
+            self.kind(comparison, &format!("random lists of up to {nodes} nodes and {links} links"), inputs);
+        }
+        for (nodes, links, count) in [(8, 40, self.size(5_000, 100_000)), (1_000, 10_000, self.size(30, 1_000))] {
+            let inputs = (0..count).map(|number| {
+                let graph = lists::rows(random, nodes, links, number % 3 == 0);
+                solving(random, self.solver, graph)
+            });
+            self.kind(comparison, &format!("random rows of up to {nodes} nodes and {links} links"), inputs);
+        }
+        for nodes in [1, 2, 3, 10, 63, 64, 65, 100, 1_000, MOST_NODES - 1, MOST_NODES] {
+            let turns = if nodes > 1_000 { self.size(1, 4) } else { self.size(5, 100) };
+            let inputs = (0..turns).flat_map(|_| {
+                // There are four of each plan: of the largest the gate takes one.
+                let step = if nodes <= 1_000 || self.asked.full { 1 } else { 4 };
+                let graphs = lists::planned(random, nodes).into_iter().step_by(step);
+                graphs.map(|graph| solving(random, self.solver, graph)).collect::<Vec<_>>()
+            });
+            self.kind(comparison, &format!("planned lists of {nodes} nodes"), inputs);
+        }
+    }
+
+    fn adapting(&self, comparison: &mut Comparison, random: &mut Random) {
+        let layout = Layout(self.solver);
+        let mut kind = |name: &str, inputs: Vec<Call>| self.kind(comparison, name, inputs.into_iter());
+        kind("thousands of pushes, threshold falling", layout.thousands(random, self.size(500, 10_000)));
+        kind("queues above 10,000 that stay", layout.stars(random, self.size(8, 200)));
+        kind("queues above 10,000 and then below 100", layout.waves(random, self.size(12, 400)));
+        // A queue of a certain size takes a solve from many nodes.
+        if self.solver != Solver::Bidirectional {
+            kind("queues at the sizes where the threshold adapts", layout.edges());
+        }
+    }
+
+    fn watched_and_many(&self, comparison: &mut Comparison, random: &mut Random) {
+        let inputs = watched::stopping(random, self.solver, self.size(2_000, 40_000));
+        self.kind(comparison, "watched nodes reached early, late and never", inputs.into_iter());
+        let sizes = [1, 3, 1_000, MOST_NODES];
+        let inputs = sizes.iter().flat_map(|&nodes| {
+            let turns = 0..self.size(2, 20);
+            turns.flat_map(|_| self.with_many(random, nodes)).collect::<Vec<_>>()
+        });
+        self.kind(comparison, "as many sources or targets as are allowed", inputs);
+    }
+
+    /// As many sources or targets as are allowed, one fewer, and one more: any nodes, out of range too; each node in
+    /// turn; one alone.
+    fn with_many(&self, random: &mut Random, nodes: u32) -> Vec<Call> {
+        let mut found = Vec::new();
+        for count in [MOST_OF_MANY - 1, MOST_OF_MANY, MOST_OF_MANY + 1] {
+            let any: Vec<u32> = (0..count).map(|_| random.below(u64::from(nodes) + 2) as u32).collect();
+            let in_turn = (0..count as u32).map(|number| number % nodes).collect();
+            for many in [any, in_turn, vec![nodes - 1; count]] {
+                let graph = lists::random(random, nodes, 4 * nodes as usize, true);
+                let mut call = solving(random, self.solver, graph);
+                call.entry = Entry::Solve(Question { solver: self.solver, task: Task::Multi }, Form::Links);
+                call.wish.many = many;
+                call.wish.settings.max_pushes = call.wish.settings.max_pushes.min(3_000);
+                found.push(call);
+            }
+        }
+        found
+    }
+
+    /// These come last: what fails elsewhere too is found there at a smaller input.
+    fn largest(&self, comparison: &mut Comparison, random: &mut Random) {
+        let entries = self.solver.entries();
+        for &entry in &entries {
+            comparison.kind(&format!("{}, limits of size", entry.name()), limits::sizes(entry), of_call, smaller);
+        }
+        let name = format!("{}, edges done by hand", self.solver.name());
+        comparison.kind(&name, limits::by_hand(&entries).into_iter(), of_edge, |_| Vec::new());
+        let classes = [
+            (1_000, 10_000, self.size(5, 60)),
+            (MOST_NODES, 262_144, self.size(1, 8)),
+            (MOST_NODES, MOST_LINKS, self.size(1, 4)),
+        ];
+        for (nodes, links, count) in classes {
+            let inputs = (0..count).map(|_| {
+                let call = lists::random(random, nodes, links, true).solving(self.solver.first_question());
+                let drawn = wishes::drawn(random, &call);
+                call.wishing(Wish { settings: Settings::DEFAULT, backward_settings: Settings::DEFAULT, ..drawn })
+            });
+            let name = format!("the Rust's default settings, {nodes} nodes and {links} links");
+            self.kind(comparison, &name, inputs);
+        }
+    }
+}
+
+/// Every solve of one graph, of its links and of the rows that the Rust makes of them, or of its rows alone.
+fn of_graph(call: &Call) -> Option<String> {
+    of_graph_spoiling(call, None)
+}
+
+/// The same; where an entry is to be spoiled, its answers on two nodes.
+fn of_graph_spoiling(call: &Call, spoiled: Option<Entry>) -> Option<String> {
+    if refusal(call) != 0 {
+        return of_call(call);
+    }
+    let Entry::Solve(Question { solver, .. }, _) = call.entry else { unreachable!("a solve") };
+    let graph = given::graph(call);
+    let mut forms = vec![Call::on_matrix(Entry::FromMatrix, &graph.adjacency).wishing(call.wish.clone())];
+    if !call.entry.takes_rows() {
+        forms.push(call.clone());
+    }
+    let theirs = Theirs::new(solver, graph, &call.wish);
+    // A call that asks for something else may have more sources or targets than are allowed.
+    let asked = |question: &Question| question.task != Task::Multi || call.wish.many.len() <= MOST_OF_MANY;
+    solver.questions().into_iter().filter(asked).find_map(|question| {
+        let outcome = theirs.done(&call.wish, question);
+        forms.iter_mut().find_map(|form| {
+            form.ask(question);
+            let mut made = Made::of(form);
+            if spoiled == Some(form.entry) && form.nodes == 2 {
+                made.spoil();
+            }
+            made.difference(&outcome)
+        })
+    })
+}
+
+/// One call of any kind.
+fn of_call(call: &Call) -> Option<String> {
+    Made::of(call).difference(&expected::outcome(call))
+}
+
+/// A call whose number docs/RULES.md gives: what is expected of damaged calls is held to it too.
+fn of_edge((call, number): &(Call, u32)) -> Option<String> {
+    misread(call, *number).or_else(|| of_call(call))
+}

@@ -1,0 +1,53 @@
+//! Solves that watch a node, with a precision near to what the whole solve gives it.
+use crate::calls::wishes::{next_down, next_up, one_of};
+use crate::calls::{lists, wishes};
+use runs::calls::call::Call;
+use runs::calls::entry::{Question, Solver, Task};
+use runs::calls::given;
+use runs::calls::theirs::Theirs;
+use runs::entries::Settings;
+use runs::random::Random;
+
+/// How a solve that watches a node compares with one that does not.
+#[derive(PartialEq)]
+enum Stop {
+    Early,
+    Late,
+    Never,
+}
+
+/// Some stop early, some late, some never.
+pub fn stopping(random: &mut Random, solver: Solver, count: u64) -> Vec<Call> {
+    let found: Vec<(Call, Stop)> = (0..count).map(|_| watching(random, solver)).collect();
+    let any = |stop: Stop| found.iter().any(|(_, found)| *found == stop);
+    assert!(any(Stop::Early) && any(Stop::Late) && any(Stop::Never), "nodes are reached early, late and never");
+    found.into_iter().map(|(call, _)| call).collect()
+}
+
+fn watching(random: &mut Random, solver: Solver) -> (Call, Stop) {
+    let settings = Settings { alpha: 0.05 + 0.3 * random.unit(), max_pushes: 400, ..Settings::DEFAULT };
+    let mut call = lists::random(random, 30, 120, false).solving(Question { solver, task: Task::Watched });
+    call.wish = wishes::with_settings(random, &call, [settings; 2]);
+    let graph = given::graph(&call);
+    let theirs = Theirs::new(solver, graph.clone(), &call.wish);
+    let whole = theirs.solved(&call.wish, Task::Single);
+    let watched = if solver == Solver::Forward { call.wish.target } else { call.wish.source };
+    let at_watched = |vector: &[f64]| vector.get(watched as usize).copied().unwrap_or(0.0);
+    call.wish.precision = if random.below(2) == 0 {
+        at_watched(&whole.estimate) * one_of(random, &[0.0, 0.1, 0.5, 0.9, 0.99, 1.0, 2.0])
+    } else {
+        // What is compared with the precision, or its tenth, after some of the pushes: equal to it, or next to it.
+        let mut wish = call.wish.clone();
+        wish.settings.max_pushes = random.below(whole.push_count as u64 + 1);
+        let part = Theirs::new(solver, graph, &wish).solved(&wish, Task::Single);
+        let (score, tenfold) = (at_watched(&part.estimate), at_watched(&part.residual) / 0.1);
+        one_of(random, &[score, next_down(score), tenfold, next_up(tenfold), next_down(tenfold)])
+    };
+    let stopped = theirs.solved(&call.wish, Task::Watched).push_count;
+    let stop = match stopped {
+        _ if stopped == whole.push_count => Stop::Never,
+        _ if 2 * stopped < whole.push_count => Stop::Early,
+        _ => Stop::Late,
+    };
+    (call, stop)
+}

@@ -1,0 +1,9 @@
+//! Calls of the entries that take a graph: which there are, what each is given and lent, and what the repaired Rust makes
+//! of it where it is not refused.
+pub mod approach;
+pub mod call;
+pub mod entry;
+pub mod given;
+pub mod outcome;
+pub mod shape;
+pub mod theirs;

@@ -1,0 +1,71 @@
+//! Declares functions of the static libraries, each with a safe function of the same name over it.
+
+/// A declaration is read from the left: each parameter gives the words that the library's function takes for it, so that
+/// a list is a pointer and a length, and a record of lists those of each in turn.
+macro_rules! exported {
+    ($(fn $name:ident($($parameters:tt)*) -> $result:ty;)*) => {
+        $(exported!(@ $name ($($parameters)*) -> $result, [] []);)*
+    };
+    (@ $name:ident () -> $result:ty, [$($parameter:ident: $kind:ty,)*] [$($word:ty = $passed:expr,)*]) => {
+        pub fn $name($($parameter: $kind),*) -> $result {
+            extern "C" {
+                fn $name($(_: $word),*) -> $result;
+            }
+            unsafe { $name($($passed),*) }
+        }
+    };
+    (@ $name:ident ($p:ident: u32 $(, $($rest:tt)*)?) -> $result:ty, [$($read:tt)*] [$($words:tt)*]) => {
+        exported!(@ $name ($($($rest)*)?) -> $result, [$($read)* $p: u32,] [$($words)* u32 = $p,]);
+    };
+    (@ $name:ident ($p:ident: f64 $(, $($rest:tt)*)?) -> $result:ty, [$($read:tt)*] [$($words:tt)*]) => {
+        exported!(@ $name ($($($rest)*)?) -> $result, [$($read)* $p: f64,] [$($words)* f64 = $p,]);
+    };
+    (@ $name:ident ($p:ident: Settings $(, $($rest:tt)*)?) -> $result:ty, [$($read:tt)*] [$($words:tt)*]) => {
+        exported!(@ $name ($($($rest)*)?) -> $result, [$($read)* $p: Settings,] [$($words)* Settings = $p,]);
+    };
+    (@ $name:ident ($p:ident: &[$t:ty] $(, $($rest:tt)*)?) -> $result:ty, [$($read:tt)*] [$($words:tt)*]) => {
+        exported!(@ $name ($($($rest)*)?) -> $result, [$($read)* $p: &[$t],]
+            [$($words)* *const $t = $p.as_ptr(), usize = $p.len(),]);
+    };
+    (@ $name:ident ($p:ident: &mut [$t:ty] $(, $($rest:tt)*)?) -> $result:ty, [$($read:tt)*] [$($words:tt)*]) => {
+        exported!(@ $name ($($($rest)*)?) -> $result, [$($read)* $p: &mut [$t],]
+            [$($words)* *mut $t = $p.as_mut_ptr(), usize = $p.len(),]);
+    };
+    (@ $name:ident ($p:ident: Links $(, $($rest:tt)*)?) -> $result:ty, [$($read:tt)*] [$($words:tt)*]) => {
+        exported!(@ $name ($($($rest)*)?) -> $result, [$($read)* $p: Links,] [$($words)*
+            u32 = $p.n,
+            *const u32 = $p.from.as_ptr(), usize = $p.from.len(),
+            *const u32 = $p.to.as_ptr(), usize = $p.to.len(),
+            *const f64 = $p.weight.as_ptr(), usize = $p.weight.len(),
+        ]);
+    };
+    (@ $name:ident ($p:ident: Rows $(, $($rest:tt)*)?) -> $result:ty, [$($read:tt)*] [$($words:tt)*]) => {
+        exported!(@ $name ($($($rest)*)?) -> $result, [$($read)* $p: Rows,] [$($words)*
+            u32 = $p.n,
+            *const u32 = $p.starts.as_ptr(), usize = $p.starts.len(),
+            *const u32 = $p.columns.as_ptr(), usize = $p.columns.len(),
+            *const f64 = $p.weights.as_ptr(), usize = $p.weights.len(),
+        ]);
+    };
+    (@ $name:ident ($p:ident: Pair $(, $($rest:tt)*)?) -> $result:ty, [$($read:tt)*] [$($words:tt)*]) => {
+        exported!(@ $name ($($($rest)*)?) -> $result, [$($read)* $p: Pair,] [$($words)*
+            *mut f64 = $p.estimate.as_mut_ptr(), usize = $p.estimate.len(),
+            *mut f64 = $p.residual.as_mut_ptr(), usize = $p.residual.len(),
+        ]);
+    };
+    (@ $name:ident ($p:ident: RowBuffers $(, $($rest:tt)*)?) -> $result:ty, [$($read:tt)*] [$($words:tt)*]) => {
+        exported!(@ $name ($($($rest)*)?) -> $result, [$($read)* $p: RowBuffers,] [$($words)*
+            *mut u32 = $p.starts.as_mut_ptr(), usize = $p.starts.len(),
+            *mut u32 = $p.columns.as_mut_ptr(), usize = $p.columns.len(),
+            *mut f64 = $p.weights.as_mut_ptr(), usize = $p.weights.len(),
+        ]);
+    };
+    (@ $name:ident ($p:ident: QueueBuffers $(, $($rest:tt)*)?) -> $result:ty, [$($read:tt)*] [$($words:tt)*]) => {
+        exported!(@ $name ($($($rest)*)?) -> $result, [$($read)* $p: QueueBuffers,] [$($words)*
+            *mut f64 = $p.priorities.as_mut_ptr(), usize = $p.priorities.len(),
+            *mut u32 = $p.nodes.as_mut_ptr(), usize = $p.nodes.len(),
+            *mut u64 = $p.queued.as_mut_ptr(), usize = $p.queued.len(),
+            *mut u64 = $p.visited.as_mut_ptr(), usize = $p.visited.len(),
+        ]);
+    };
+}
