@@ -131,7 +131,7 @@ pub fn measured(c: Counted, residual: &[f64]) -> Solved
 }
 
 // The score of v, +0 where it is no node.
-fn score_at(estimate: &[f64], v: u32) -> f64
+pub fn score_at(estimate: &[f64], v: u32) -> f64
     ensures { λ r. ⌜ r ≡ getD (now (estimate .entry)) v +0 ⌝ }
 {
     let at = v as usize;

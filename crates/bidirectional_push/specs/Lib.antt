@@ -1,0 +1,2 @@
+-- The definitions that the bidirectional solver's contracts cite.
+pub mod Outcomes
