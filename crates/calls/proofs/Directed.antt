@@ -18,7 +18,7 @@ use Rattle.solver.specs.Buffers.{Rows}
 use Rattle.solver.specs.Meant.{Stands}
 use Rattle.solver.proofs.Graphs.{stands-over}
 use Rattle.calls.specs.declared.Counted.{Counted}
-use Rattle.calls.specs.Lent.{SolveLent, solveLent, solveDone}
+use Rattle.calls.specs.Lent.{solveLent, solveDone}
 use Rattle.calls.specs.Promises.{Fits, Settled, countsOf}
 use Rattle.calls.proofs.Degrees.{degree-at}
 use Rattle.calls.proofs.Left.{settled-left}

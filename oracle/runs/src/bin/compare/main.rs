@@ -16,7 +16,7 @@ use runs::calls::entry::Solver;
 use runs::comparison::Comparison;
 use runs::random::Random;
 
-const SOLVERS: [Solver; 3] = [Solver::Forward, Solver::Backward, Solver::Bidirectional];
+const SOLVERS: [Solver; 2] = [Solver::Forward, Solver::Backward];
 const VECTORS: [vectors::Entry; 2] = [vectors::Entry::Extrapolated, vectors::Entry::Combined];
 
 /// What a run was asked for.
