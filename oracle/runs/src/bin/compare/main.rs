@@ -1,8 +1,9 @@
 //! Compares the proved library with the repaired Rust, input by input.
 //!
-//! compare [full] [seed N] [planted]
+//! compare [full] [seed N] [store] [forward] [backward] [planted]
 //!
-//! Without `full` it runs the share that the gate runs. `planted` puts one wrong digit into some of the proved
+//! Without `full` it runs the share that the gate runs. Where parts are named it runs these: `store` is the square root, the
+//! norm, the graph store and the calls on vectors alone. `planted` puts one wrong digit into some of the proved
 //! library's answers, of the square root and then of each call of the solvers, to show that a difference is found: the
 //! program must then fail, and it does so only where each is found.
 mod calls;
@@ -24,6 +25,8 @@ pub struct Asked {
     pub full: bool,
     pub planted: bool,
     pub seed: u64,
+    /// The parts that are named: none stand for all.
+    pub parts: Vec<String>,
 }
 
 impl Asked {
@@ -31,17 +34,22 @@ impl Asked {
     pub fn size(&self, gate: u64, full: u64) -> u64 {
         if self.full { full } else { gate }
     }
+
+    fn asks_for(&self, part: &str) -> bool {
+        self.parts.is_empty() || self.parts.iter().any(|named| named == part)
+    }
 }
 
 fn main() {
-    let mut asked = Asked { full: false, planted: false, seed: 1 };
+    let mut asked = Asked { full: false, planted: false, seed: 1, parts: Vec::new() };
     let mut words = std::env::args().skip(1);
     while let Some(word) = words.next() {
         match word.as_str() {
             "full" => asked.full = true,
             "planted" => asked.planted = true,
             "seed" => asked.seed = words.next().and_then(|n| n.parse().ok()).expect("seed takes a number"),
-            _ => panic!("compare [full] [seed N] [planted]"),
+            "store" | "forward" | "backward" => asked.parts.push(word),
+            _ => panic!("compare [full] [seed N] [store] [forward] [backward] [planted]"),
         }
     }
     let mut random = Random::new(asked.seed);
@@ -57,13 +65,15 @@ fn main() {
         return comparison.finish();
     }
     let mut comparison = Comparison::new();
-    square_root::compare(&asked, &mut comparison, &mut random);
-    norm::compare(&asked, &mut comparison, &mut random);
-    graph::compare(&asked, &mut comparison, &mut random);
-    for entry in VECTORS {
-        vectors::compare(&asked, entry, &mut comparison, &mut random);
+    if asked.asks_for("store") {
+        square_root::compare(&asked, &mut comparison, &mut random);
+        norm::compare(&asked, &mut comparison, &mut random);
+        graph::compare(&asked, &mut comparison, &mut random);
+        for entry in VECTORS {
+            vectors::compare(&asked, entry, &mut comparison, &mut random);
+        }
     }
-    for solver in SOLVERS {
+    for solver in SOLVERS.into_iter().filter(|solver| asked.asks_for(solver.name())) {
         solves::compare(&asked, solver, &mut comparison, &mut random);
     }
     comparison.finish();
