@@ -1,2 +1,4 @@
--- The theorem that each call of the bidirectional solver has one outcome.
+-- The laws that the proofs of the bidirectional solver share, and the theorem that each call has one outcome.
+pub mod Room
+pub mod Joining
 pub mod One

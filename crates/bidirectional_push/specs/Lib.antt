@@ -1,2 +1,4 @@
 -- The definitions that the bidirectional solver's contracts cite.
+pub mod Lent
 pub mod Outcomes
+pub mod Promises

@@ -1,14 +1,71 @@
 -- The one outcome of each public call of the bidirectional solver. Assumes nothing.
 use Prim.Native.Nat.{ℕ}
+use mathlib.Core.Bool.{Bool, true, false}
 use mathlib.Core.List.{List, [], _∷_}
-use lib.ListN.{length}
+use lib.ListN.{length, replicate}
 use lib.Ieee.{Float}
 use Rattle.numbers.specs.Numbers.{+0}
-use Rattle.refusals.specs.Refusals.{_or_, sizes, alphas}
-use Rattle.refusals.specs.Calls.{left, call}
-use Rattle.rules.specs.Answers.{combined}
+use Rattle.numbers.specs.Choice.{if_then_else_}
+use Rattle.refusals.specs.Refusals.{_or_, sizes, alphas, settings}
+use Rattle.refusals.specs.Calls.{Left, left, call}
+use Rattle.refusals.specs.declared.Settings.{Settings}
+use Rattle.rules.specs.Ways.{forward, backward}
+use Rattle.rules.specs.Rules.{State, unwatched}
+use Rattle.rules.specs.Answers.{combined, Method, neither, backwardAlone, forwardAlone, both, method, answerBy}
 use Rattle.calls.specs.declared.Scored.{Scored}
 use Rattle.calls.specs.Lent.{score}
+use Rattle.calls.specs.Outcomes.{Given, ends}
+use Rattle.bidirectional_push.specs.Lent.{Pairs}
+
+-- ---- solve_bidirectional and adaptive_solve
+
+-- whether the forward solve is used
+unfoldable pub usesForward : Method → Bool
+usesForward neither = false
+usesForward backwardAlone = false
+usesForward forwardAlone = true
+usesForward both = true
+
+-- whether the backward solve is
+unfoldable pub usesBackward : Method → Bool
+usesBackward neither = false
+usesBackward backwardAlone = true
+usesBackward forwardAlone = false
+usesBackward both = true
+
+-- a vector of a pair that is used, among n nodes; one that is not is filled with +0
+abbrev pub filled : Bool → ℕ → List Float → List Float
+filled used n xs = if used then xs else replicate n +0
+
+-- the two pairs, from the backward and the forward solve
+unfoldable pub pairsBy : Method → ℕ → State → State → Pairs
+pairsBy m n b f =
+    record {
+      forward-estimate = filled (usesForward m) n (f .estimate);
+      forward-residual = filled (usesForward m) n (f .residual);
+      backward-estimate = filled (usesBackward m) n (b .estimate);
+      backward-residual = filled (usesBackward m) n (b .residual);
+    }
+
+module _ {B : Type 0} (g : Given Pairs B) (source target : ℕ) (sf sb : Settings) where
+  -- what a method leaves of the forward solve from the source and the backward solve from the target
+  unfoldable pub joined : Method → Left Float B
+  joined m =
+      let f = ends forward g sf unwatched (source ∷ []) in
+      let b = ends backward g sb unwatched (target ∷ []) in
+      left (answerBy m (sb .alpha) (g .nodes) source target b f) (g .after (pairsBy m (g .nodes) b f))
+
+  -- refused, where either settings record can give 6, or done by a method
+  unfoldable pub bySolves : Method → Left Scored B
+  bySolves m = call (g .tests 0 or settings sf or settings sb) (λ k. score k +0) (g .before) (left (score 0 (joined m .answer)) (joined m .lent))
+
+  -- solve_bidirectional
+  abbrev pub solveBidirectional : Left Scored B
+  solveBidirectional = bySolves both
+
+  -- adaptive_solve
+  abbrev pub adaptiveSolve : Left Scored B
+  adaptiveSolve = bySolves (method (g .nodes) (g .rows) source target)
 
 -- ---- combine_with_forward
 

@@ -1,2 +1,11 @@
-// The bidirectional solver: the call that combines a forward and a backward solve.
+// The bidirectional solver below its public calls with rows and with links, and the call that needs neither.
 pub mod combination;
+pub mod links;
+pub mod methods;
+pub mod rows;
+
+// Which solves are used.
+pub struct Uses {
+    pub forward: bool,
+    pub backward: bool,
+}

@@ -1,0 +1,216 @@
+// Bidirectional and adaptive solves of lent rows, for the public calls: what they test, and what they do, which leaves
+// the workspace cleared.
+ghost use mathlib.Core.Path.{_≡_};
+ghost use mathlib.Core.List.{[]};
+ghost use lib.ListN.{length};
+ghost use Rattle.refusals.specs.Calls.{left};
+ghost use Rattle.graph.specs.Store.{RowBuffers};
+ghost use Rattle.calls.specs.Lent.{solveLent};
+ghost use Rattle.calls.specs.Outcomes.{givenRows};
+ghost use Rattle.calls.specs.Promises.{Fits};
+ghost use Rattle.backward_push.specs.Lent.{backLent};
+ghost use Rattle.bidirectional_push.specs.Lent.{bothLent, joining};
+ghost use Rattle.bidirectional_push.specs.Promises.{Joins, Answers};
+use crate::methods;
+use backward_push::turned;
+use calls::Scored;
+use refusals::Settings;
+use solver::Watch;
+
+// The solves of rows that a method uses, and the score. One that is not used starts nowhere, which fills its vectors with
+// +0. The queue's nodes serve as positions while the rows are turned.
+pub fn solve_rows<'a>(
+    n: u32,
+    starts: &[u32],
+    columns: &'a [u32],
+    weights: &'a [f64],
+    source: u32,
+    target: u32,
+    adaptive: bool,
+    forward_settings: Settings,
+    backward_settings: Settings,
+    forward_estimate: &mut [f64],
+    forward_residual: &mut [f64],
+    backward_estimate: &mut [f64],
+    backward_residual: &mut [f64],
+    reverse_starts: &mut [u32],
+    reverse_columns: &mut [u32],
+    reverse_weights: &mut [f64],
+    in_degrees: &mut [f64],
+    out_degrees: &mut [f64],
+    priorities: &mut [f64],
+    nodes: &mut [u32],
+    queued: &mut [u64],
+    visited: &mut [u64],
+) -> f64
+    requires { ⌜ RowBuffers n (now starts) (now columns) (now weights) (now «reverse_starts») (now «reverse_columns») (now «reverse_weights») (now nodes)
+        × (length (now «out_degrees») ≡ n) × (length (now «forward_estimate») ≡ n) × (length (now «forward_residual») ≡ n)
+        × Fits n [] (solveLent (now «backward_estimate») (now «backward_residual») (now «in_degrees») (now priorities) (now nodes) (now queued) (now visited)) ⌝ }
+    ensures { λ r. ⌜ Joins adaptive (givenRows joining n (now (starts .entry)) (now (columns .entry)) (now (weights .entry))
+        (bothLent (now («forward_estimate» .entry)) (now («forward_residual» .entry)) (backLent (now («reverse_starts» .entry)) (now («reverse_columns» .entry)) (now («reverse_weights» .entry)) (now («out_degrees» .entry))
+        (solveLent (now («backward_estimate» .entry)) (now («backward_residual» .entry)) (now («in_degrees» .entry)) (now (priorities .entry)) (now (nodes .entry)) (now (queued .entry)) (now (visited .entry))))))
+        source target «forward_settings» «backward_settings»
+        (left r (bothLent (now («forward_estimate» .exit)) (now («forward_residual» .exit)) (backLent (now («reverse_starts» .exit)) (now («reverse_columns» .exit)) (now («reverse_weights» .exit)) (now («out_degrees» .exit))
+        (solveLent (now («backward_estimate» .exit)) (now («backward_residual» .exit)) (now («in_degrees» .exit)) (now (priorities .exit)) (now (nodes .exit)) (now (queued .exit)) (now (visited .exit)))))) ⌝ }
+{
+    turned::turn(
+        n,
+        starts,
+        columns,
+        weights,
+        reverse_starts,
+        reverse_columns,
+        reverse_weights,
+        in_degrees,
+        out_degrees,
+        nodes,
+    );
+    let uses = methods::choose(adaptive, source, target, in_degrees, out_degrees);
+    let from = [source];
+    let to = [target];
+    calls::solve_settled(
+        forward_settings,
+        false,
+        Watch::Nobody,
+        methods::listed(&from, uses.forward),
+        starts,
+        columns,
+        reverse_columns,
+        weights,
+        reverse_weights,
+        out_degrees,
+        out_degrees,
+        forward_estimate,
+        forward_residual,
+        priorities,
+        nodes,
+        queued,
+        visited,
+    );
+    calls::solve_settled(
+        backward_settings,
+        true,
+        Watch::Nobody,
+        methods::listed(&to, uses.backward),
+        reverse_starts,
+        columns,
+        reverse_columns,
+        weights,
+        reverse_weights,
+        in_degrees,
+        out_degrees,
+        backward_estimate,
+        backward_residual,
+        priorities,
+        nodes,
+        queued,
+        visited,
+    );
+    turned::clear(
+        reverse_starts,
+        reverse_columns,
+        reverse_weights,
+        in_degrees,
+        out_degrees,
+    );
+    methods::score(
+        uses,
+        backward_settings.alpha,
+        source,
+        target,
+        backward_estimate,
+        backward_residual,
+        forward_estimate,
+        forward_residual,
+    )
+}
+
+// A bidirectional or adaptive call with rows: refused with the first number that applies, or solved.
+pub fn checked_rows<'a>(
+    n: u32,
+    starts: &[u32],
+    columns: &'a [u32],
+    weights: &'a [f64],
+    source: u32,
+    target: u32,
+    adaptive: bool,
+    forward_settings: Settings,
+    backward_settings: Settings,
+    forward_estimate: &mut [f64],
+    forward_residual: &mut [f64],
+    backward_estimate: &mut [f64],
+    backward_residual: &mut [f64],
+    reverse_starts: &mut [u32],
+    reverse_columns: &mut [u32],
+    reverse_weights: &mut [f64],
+    in_degrees: &mut [f64],
+    out_degrees: &mut [f64],
+    priorities: &mut [f64],
+    nodes: &mut [u32],
+    queued: &mut [u64],
+    visited: &mut [u64],
+) -> Scored
+    ensures { λ r. ⌜ Answers adaptive (givenRows joining n (now (starts .entry)) (now (columns .entry)) (now (weights .entry))
+        (bothLent (now («forward_estimate» .entry)) (now («forward_residual» .entry)) (backLent (now («reverse_starts» .entry)) (now («reverse_columns» .entry)) (now («reverse_weights» .entry)) (now («out_degrees» .entry))
+        (solveLent (now («backward_estimate» .entry)) (now («backward_residual» .entry)) (now («in_degrees» .entry)) (now (priorities .entry)) (now (nodes .entry)) (now (queued .entry)) (now (visited .entry))))))
+        source target «forward_settings» «backward_settings»
+        (left r (bothLent (now («forward_estimate» .exit)) (now («forward_residual» .exit)) (backLent (now («reverse_starts» .exit)) (now («reverse_columns» .exit)) (now («reverse_weights» .exit)) (now («out_degrees» .exit))
+        (solveLent (now («backward_estimate» .exit)) (now («backward_residual» .exit)) (now («in_degrees» .exit)) (now (priorities .exit)) (now (nodes .exit)) (now (queued .exit)) (now (visited .exit)))))) ⌝ }
+{
+    let k = n as usize;
+    let tests = backward_push::rows::refuse_rows(
+        (forward_estimate.len() != k) | (forward_residual.len() != k),
+        n,
+        0,
+        starts,
+        columns,
+        weights,
+        backward_estimate.len(),
+        backward_residual.len(),
+        reverse_starts.len(),
+        reverse_columns.len(),
+        reverse_weights.len(),
+        in_degrees.len(),
+        out_degrees.len(),
+        priorities.len(),
+        nodes.len(),
+        queued.len(),
+        visited.len(),
+    );
+    let later = refusals::or(
+        refusals::refuse_settings(forward_settings),
+        refusals::refuse_settings(backward_settings),
+    );
+    let refusal = refusals::or(tests, later);
+    if refusal != 0 {
+        return Scored {
+            refusal,
+            score: 0.0,
+        };
+    }
+    let score = solve_rows(
+        n,
+        starts,
+        columns,
+        weights,
+        source,
+        target,
+        adaptive,
+        forward_settings,
+        backward_settings,
+        forward_estimate,
+        forward_residual,
+        backward_estimate,
+        backward_residual,
+        reverse_starts,
+        reverse_columns,
+        reverse_weights,
+        in_degrees,
+        out_degrees,
+        priorities,
+        nodes,
+        queued,
+        visited,
+    );
+    Scored { refusal: 0, score }
+}
