@@ -423,7 +423,7 @@ uint32_t reachability_probabilities_rows(uint32_t n,
                                          uint64_t *queued, size_t queued_length,
                                          uint64_t *visited, size_t visited_length);
 
-/* crate bidirectional_push */
+/* crate combination */
 
 struct Scored combine_with_forward(const double *backward_estimate, size_t backward_estimate_length,
                                    const double *backward_residual, size_t backward_residual_length,

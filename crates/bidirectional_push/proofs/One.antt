@@ -1,15 +1,13 @@
 -- Each public call of the bidirectional solver has one outcome: two that its promise allows for the same input are equal. Assumes nothing.
 use Prim.Native.Nat.{ℕ}
-use mathlib.Core.List.{List}
 use mathlib.Core.Path.{_≡_}
-use lib.Ieee.{Float}
 use Rattle.refusals.specs.Calls.{Left}
 use Rattle.refusals.specs.declared.Settings.{Settings}
 use Rattle.refusals.proofs.Laws.{agree}
 use Rattle.calls.specs.declared.Scored.{Scored}
 use Rattle.calls.specs.Outcomes.{Given}
 use Rattle.bidirectional_push.specs.Lent.{Pairs}
-use Rattle.bidirectional_push.specs.Outcomes.{solveBidirectional, adaptiveSolve, combining}
+use Rattle.bidirectional_push.specs.Outcomes.{solveBidirectional, adaptiveSolve}
 
 -- whether it is given a list of links or rows
 module _ {B : Type 0} (g : Given Pairs B) (source target : ℕ) (sf sb : Settings) (x y : Left Scored B) where
@@ -20,7 +18,3 @@ module _ {B : Type 0} (g : Given Pairs B) (source target : ℕ) (sf sb : Setting
   -- adaptive_solve
   pub one-adaptive : x ≡ adaptiveSolve g source target sf sb → y ≡ adaptiveSolve g source target sf sb → x ≡ y
   one-adaptive = agree
-
--- combine_with_forward
-pub one-combined : (be br fe fr : List Float) (alpha : Float) (x y : Scored) → x ≡ combining be br fe fr alpha → y ≡ combining be br fe fr alpha → x ≡ y
-one-combined be br fe fr alpha x y = agree

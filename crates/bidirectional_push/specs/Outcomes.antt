@@ -2,22 +2,20 @@
 use Prim.Native.Nat.{ℕ}
 use mathlib.Core.Bool.{Bool, true, false}
 use mathlib.Core.List.{List, [], _∷_}
-use lib.ListN.{length, replicate}
+use lib.ListN.{replicate}
 use lib.Ieee.{Float}
 use Rattle.numbers.specs.Numbers.{+0}
 use Rattle.numbers.specs.Choice.{if_then_else_}
-use Rattle.refusals.specs.Refusals.{_or_, sizes, alphas, settings}
+use Rattle.refusals.specs.Refusals.{_or_, settings}
 use Rattle.refusals.specs.Calls.{Left, left, call}
 use Rattle.refusals.specs.declared.Settings.{Settings}
 use Rattle.rules.specs.Ways.{forward, backward}
 use Rattle.rules.specs.Rules.{State, unwatched}
-use Rattle.rules.specs.Answers.{combined, Method, neither, backwardAlone, forwardAlone, both, method, answerBy}
+use Rattle.rules.specs.Answers.{Method, neither, backwardAlone, forwardAlone, both, method, answerBy}
 use Rattle.calls.specs.declared.Scored.{Scored}
 use Rattle.calls.specs.Lent.{score}
 use Rattle.calls.specs.Outcomes.{Given, ends}
 use Rattle.bidirectional_push.specs.Lent.{Pairs}
-
--- ---- solve_bidirectional and adaptive_solve
 
 -- whether the forward solve is used
 unfoldable pub usesForward : Method → Bool
@@ -66,16 +64,3 @@ module _ {B : Type 0} (g : Given Pairs B) (source target : ℕ) (sf sb : Setting
   -- adaptive_solve
   abbrev pub adaptiveSolve : Left Scored B
   adaptiveSolve = bySolves (method (g .nodes) (g .rows) source target)
-
--- ---- combine_with_forward
-
--- its first number: the first vector's length is the node count
-unfoldable pub combinedRefusal : List Float → List Float → List Float → List Float → Float → ℕ
-combinedRefusal be br fe fr alpha =
-    let n = length be in
-    sizes n 0 0 ((length br, n) ∷ (length fe, n) ∷ (length fr, n) ∷ []) or alphas alpha
-
--- its answer
-unfoldable pub combining : List Float → List Float → List Float → List Float → Float → Scored
-combining be br fe fr alpha =
-    call {B = Unit {0}} (combinedRefusal be br fe fr alpha) (λ k. score k +0) tt (left (score 0 (combined alpha be br fe fr (length be))) tt) .answer

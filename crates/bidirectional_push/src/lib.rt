@@ -1,5 +1,4 @@
-// The bidirectional solver below its public calls with rows and with links, and the call that needs neither.
-pub mod combination;
+// The bidirectional solver below its public calls with rows and with links.
 pub mod links;
 pub mod methods;
 pub mod rows;

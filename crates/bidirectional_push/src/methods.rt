@@ -5,7 +5,7 @@ ghost use lib.ListN.{length};
 ghost use Rattle.numbers.specs.Choice.{if_then_else_};
 ghost use Rattle.bidirectional_push.specs.Promises.{methodBy, Follows, scoreBy};
 use crate::Uses;
-use crate::combination::combine;
+use combination::combine;
 
 // Both solves or, in adaptive mode, those that the degrees of source and target speak for.
 pub fn choose(

@@ -1,4 +1,4 @@
--- `bidirectional_push::combination::combine` meets its contract. Invariant: the first v nodes are added. Assumes nothing.
+-- `combination::combine` meets its contract. Invariant: the first v nodes are added. Assumes nothing.
 use Prim.Native.Nat.{_-_, _≤_, zero-le}
 use mathlib.Core.Path.{_≡_, refl}
 use native.Mathlib.Numerals.{add-one}
@@ -7,8 +7,8 @@ use denote.Ref.{now}
 use lib.ListN.{length}
 use Rattle.rules.specs.Answers.{combined}
 use borrow.Author.Needs.{needs}
-use Rattle.bidirectional_push.proofs.combination.combine.Statement.{statement}
-use Rattle.bidirectional_push.proofs.combination.combine.Tie as tie
+use Rattle.combination.proofs.combine.Statement.{statement}
+use Rattle.combination.proofs.combine.Tie as tie
 
 abbrev Inv-loop : tie.InvT-loop
 Inv-loop be br fe fr alpha total₀ v₀ total v = (v ≤ length be) × (total ≡ combined alpha be br fe fr v)

@@ -1,4 +1,4 @@
--- `bidirectional_push::combination::combine_with_forward` meets its contract: refused by what the tests say, or done as `combine` says. Assumes nothing.
+-- `combination::combine_with_forward` meets its contract: refused by what the tests say, or done as `combine` says. Assumes nothing.
 use mathlib.Core.Path.{_≡_, sym, ap, _∙_}
 use denote.Ref.{now}
 use lib.Ieee.{Float}
@@ -8,10 +8,10 @@ use Rattle.refusals.specs.Calls.{Left, left}
 use Rattle.refusals.proofs.Laws.{refused, accepted, or-zero, sized}
 use Rattle.calls.specs.declared.Scored.{Scored}
 use Rattle.calls.specs.Lent.{score}
-use Rattle.bidirectional_push.specs.Outcomes.{combinedRefusal, combining}
+use Rattle.combination.specs.Outcomes.{combinedRefusal, combining}
 use borrow.Author.Needs.{needs}
-use Rattle.bidirectional_push.proofs.combination.combine_with_forward.Statement.{statement}
-use Rattle.bidirectional_push.proofs.combination.combine_with_forward.Tie as tie
+use Rattle.combination.proofs.combine_with_forward.Statement.{statement}
+use Rattle.combination.proofs.combine_with_forward.Tie as tie
 
 -- the number
 number : (c : tie.After-or) → let a = c .before .before .before .before .before .before .before .args in

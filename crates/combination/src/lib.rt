@@ -2,7 +2,7 @@
 ghost use mathlib.Core.Path.{_≡_};
 ghost use lib.ListN.{length};
 ghost use Rattle.rules.specs.Answers.{combined};
-ghost use Rattle.bidirectional_push.specs.Outcomes.{combining};
+ghost use Rattle.combination.specs.Outcomes.{combining};
 use calls::Scored;
 
 // From +0, per node in order: the product of the estimates, and then each residual times the other's estimate times

@@ -1,0 +1,2 @@
+-- The theorem that the call has one outcome.
+pub mod One

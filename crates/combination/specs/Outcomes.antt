@@ -1,0 +1,22 @@
+-- The one answer of the call that combines a forward and a backward solve. Assumes nothing.
+use Prim.Native.Nat.{ℕ}
+use mathlib.Core.List.{List, [], _∷_}
+use lib.ListN.{length}
+use lib.Ieee.{Float}
+use Rattle.numbers.specs.Numbers.{+0}
+use Rattle.refusals.specs.Refusals.{_or_, sizes, alphas}
+use Rattle.refusals.specs.Calls.{left, call}
+use Rattle.rules.specs.Answers.{combined}
+use Rattle.calls.specs.declared.Scored.{Scored}
+use Rattle.calls.specs.Lent.{score}
+
+-- its first number: the first vector's length is the node count
+unfoldable pub combinedRefusal : List Float → List Float → List Float → List Float → Float → ℕ
+combinedRefusal be br fe fr alpha =
+    let n = length be in
+    sizes n 0 0 ((length br, n) ∷ (length fe, n) ∷ (length fr, n) ∷ []) or alphas alpha
+
+-- its answer
+unfoldable pub combining : List Float → List Float → List Float → List Float → Float → Scored
+combining be br fe fr alpha =
+    call {B = Unit {0}} (combinedRefusal be br fe fr alpha) (λ k. score k +0) tt (left (score 0 (combined alpha be br fe fr (length be))) tt) .answer
