@@ -20,7 +20,7 @@ struct Measured<'a> {
 }
 
 pub fn measure(random: &mut Random) {
-    println!("solvers: buffers and memory as for the graph; times are for each push, of one solve or of two");
+    println!("solvers: buffers and memory as for the graph; times are for each push");
     of_size(random, "1,000 nodes, 10,000 links", 1_000, 10_000, [31, 31, 15, 9]);
     of_size(random, "65,536 nodes, 262,144 links", 65_536, 262_144, [15, 31, 15, 9]);
     of_size(random, "65,536 nodes, 1,048,576 links", 65_536, 1_048_576, [11, 15, 11, 7]);
@@ -44,7 +44,7 @@ pub fn once(random: &mut Random, call: Call) {
 fn of_size(random: &mut Random, name: &str, nodes: usize, links: usize, rounds: [usize; 4]) {
     let edges = drawn(random, nodes as u64, links);
     let graph = PushGraph::from_edges(nodes, &edges);
-    // The adaptive solve pushes one way alone, backward, where it is from a node with more than twice the degree.
+    // An adaptive solve from node 0 to such a target pushes one way alone, backward.
     let fewer = |&target: &usize| graph.reverse_degrees[target] * 2.0 < graph.degrees[0];
     let target = (0..nodes).find(fewer).expect("a target of a lower degree") as u32;
     let mut ours = Ours::new(nodes, &edges, graph.adjacency.clone());
