@@ -1,0 +1,3 @@
+// The public calls of the bidirectional solver with links, one to a file.
+pub mod adaptive;
+pub mod bidirectional;
