@@ -1,6 +1,6 @@
 //! Compares the proved library with the repaired Rust, input by input.
 //!
-//! compare [full] [seed N] [store] [forward] [backward] [planted]
+//! compare [full] [seed N] [store] [forward] [backward] [bidirectional] [planted]
 //!
 //! Without `full` it runs the share that the gate runs. Where parts are named it runs these: `store` is the square root, the
 //! norm, the graph store and the calls on vectors alone. `planted` puts one wrong digit into some of the proved
@@ -17,7 +17,7 @@ use runs::calls::entry::Solver;
 use runs::comparison::Comparison;
 use runs::random::Random;
 
-const SOLVERS: [Solver; 2] = [Solver::Forward, Solver::Backward];
+const SOLVERS: [Solver; 3] = [Solver::Forward, Solver::Backward, Solver::Bidirectional];
 const VECTORS: [vectors::Entry; 2] = [vectors::Entry::Extrapolated, vectors::Entry::Combined];
 
 /// What a run was asked for.
@@ -48,8 +48,8 @@ fn main() {
             "full" => asked.full = true,
             "planted" => asked.planted = true,
             "seed" => asked.seed = words.next().and_then(|n| n.parse().ok()).expect("seed takes a number"),
-            "store" | "forward" | "backward" => asked.parts.push(word),
-            _ => panic!("compare [full] [seed N] [store] [forward] [backward] [planted]"),
+            "store" | "forward" | "backward" | "bidirectional" => asked.parts.push(word),
+            _ => panic!("compare [full] [seed N] [store] [forward] [backward] [bidirectional] [planted]"),
         }
     }
     let mut random = Random::new(asked.seed);

@@ -2,7 +2,7 @@
 use crate::space::{PairSpace, QueueSpace, RowSpace};
 use crate::theirs::{Call, Done, Ends};
 use repaired::graph::CompressedSparseRow;
-use runs::entries::{self, Links, Rows, Settings, Solved};
+use runs::entries::{self, Links, Rows, Scored, Settings, Solved};
 use std::hint::black_box;
 use std::mem::size_of_val;
 
@@ -25,6 +25,13 @@ impl From<Solved> for Done {
     fn from(solved: Solved) -> Self {
         assert_eq!(solved.refusal, 0);
         Self { pushes: solved.push_count as usize, number: solved.residual_norm }
+    }
+}
+
+impl From<Scored> for Done {
+    fn from(scored: Scored) -> Self {
+        assert_eq!(scored.refusal, 0);
+        Self { pushes: 0, number: scored.score }
     }
 }
 
@@ -66,6 +73,14 @@ impl Ours {
                 given, target, settings, backward, rows, reverse, arriving, leaving, queue,
             )
             .into(),
+            Call::Bidirectional => entries::solve_bidirectional_links(
+                given, source, target, settings, settings, forward, backward, rows, reverse, arriving, leaving, queue,
+            )
+            .into(),
+            Call::Adaptive => entries::adaptive_solve_links(
+                given, source, target, settings, settings, forward, backward, rows, reverse, arriving, leaving, queue,
+            )
+            .into(),
         }
     }
 
@@ -84,6 +99,14 @@ impl Ours {
                 given, target, settings, backward, reverse, arriving, leaving, queue,
             )
             .into(),
+            Call::Bidirectional => entries::solve_bidirectional_rows(
+                given, source, target, settings, settings, forward, backward, reverse, arriving, leaving, queue,
+            )
+            .into(),
+            Call::Adaptive => entries::adaptive_solve_rows(
+                given, source, target, settings, settings, forward, backward, reverse, arriving, leaving, queue,
+            )
+            .into(),
         }
     }
 
@@ -96,6 +119,7 @@ impl Ours {
             + match call {
                 Call::Forward => self.forward.bytes(),
                 Call::Backward => self.backward.bytes() + reverse,
+                _ => self.forward.bytes() + self.backward.bytes() + reverse,
             }
     }
 

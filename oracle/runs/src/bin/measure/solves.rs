@@ -35,7 +35,7 @@ pub fn once(random: &mut Random, call: Call) {
         Call::Backward => Settings { epsilon: 0.0, queue_threshold: 0.0, ..default },
         _ => default,
     };
-    let theirs = Theirs::new(call, PushGraph::from_edges(65_536, &edges), &settings).solve(ends);
+    let theirs = Theirs::new(call, PushGraph::from_edges(65_536, &edges), &settings).solve(call, ends);
     println!("{}, {} pushes", call.name(), theirs.pushes);
     let mut ours = Ours::new(65_536, &edges, CompressedSparseRow::new(65_536, 65_536));
     agree(&ours.solve_links(call, ends, settings), &theirs);
@@ -49,7 +49,7 @@ fn of_size(random: &mut Random, name: &str, nodes: usize, links: usize, rounds: 
     let target = (0..nodes).find(fewer).expect("a target of a lower degree") as u32;
     let mut ours = Ours::new(nodes, &edges, graph.adjacency.clone());
     let measured = Measured { name, edges, matrix: graph.adjacency, ends: Ends { source: 0, target } };
-    for call in [Call::Forward, Call::Backward] {
+    for call in [Call::Forward, Call::Backward, Call::Bidirectional, Call::Adaptive] {
         measured.whole(call, &mut ours, rounds[0]);
         measured.memory(call, &ours);
     }
@@ -65,19 +65,28 @@ impl Measured<'_> {
     /// The Rust's side, from links to the answer with its default settings.
     fn from_links(&self, call: Call) -> Done {
         let graph = PushGraph::from_edges(self.matrix.nrows, black_box(&self.edges));
-        Theirs::new(call, graph, &Settings::DEFAULT).solve(self.ends)
+        Theirs::new(call, graph, &Settings::DEFAULT).solve(call, self.ends)
     }
 
     /// The same from rows.
     fn from_rows(&self, call: Call) -> Done {
         let graph = PushGraph::from_matrix(black_box(&self.matrix));
-        Theirs::new(call, graph, &Settings::DEFAULT).solve(self.ends)
+        Theirs::new(call, graph, &Settings::DEFAULT).solve(call, self.ends)
     }
 
+    /// How many pushes the call makes: of one way, or of both.
+    fn pushes(&self, call: Call) -> usize {
+        let of = |way: Call| self.from_rows(way).pushes;
+        match call {
+            Call::Forward => of(Call::Forward),
+            Call::Backward | Call::Adaptive => of(Call::Backward),
+            Call::Bidirectional => of(Call::Forward) + of(Call::Backward),
+        }
+    }
 
     fn whole(&self, call: Call, ours: &mut Ours, rounds: usize) {
         let (ends, settings) = (self.ends, Settings::DEFAULT);
-        let pushes = self.from_rows(call).pushes;
+        let pushes = self.pushes(call);
         agree(&ours.solve_links(call, ends, settings), &self.from_links(call));
         agree(&ours.solve_rows(call, ends, settings), &self.from_rows(call));
         let (name, of) = (call.name(), self.name);
@@ -97,7 +106,7 @@ impl Measured<'_> {
         let heap = peak(|| self.from_rows(call));
         println!("memory, {name}_rows, {of}: {rows} bytes against {heap}");
         let theirs = Theirs::new(call, PushGraph::from_matrix(&self.matrix), &Settings::DEFAULT);
-        let heap = peak(|| theirs.solve(self.ends));
+        let heap = peak(|| theirs.solve(call, self.ends));
         println!("memory, {name}_rows, the Rust's graph not counted, {of}: {rows} bytes against {heap}");
     }
 
@@ -109,12 +118,12 @@ impl Measured<'_> {
         let graph = PushGraph::from_matrix(&self.matrix);
         let (built_all, built_none) = (Theirs::new(call, graph.clone(), &all), Theirs::new(call, graph, &none));
         let ends = self.ends;
-        let result = built_all.solve(ends);
+        let result = built_all.solve(call, ends);
         assert_eq!(result.pushes, pushes, "a run makes all its pushes");
         agree(&ours.solve_rows(call, ends, all), &result);
 
         let mut ours = |settings: Settings| elapsed(|| keep(ours.solve_rows(call, ends, settings)));
-        let theirs = |solver: &Theirs| elapsed(|| keep(solver.solve(black_box(ends))));
+        let theirs = |solver: &Theirs| elapsed(|| keep(solver.solve(call, black_box(ends))));
         interleaved_times(
             rounds,
             pushes,

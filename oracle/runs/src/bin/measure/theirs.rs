@@ -1,6 +1,6 @@
 //! The calls that are measured, and the Rust's side of each.
 use repaired::graph::PushGraph;
-use repaired::solver::backward_push::BackwardPushSolver;
+use repaired::solver::backward_push::{BackwardPushSolver, BidirectionalPushSolver};
 use repaired::solver::forward_push::ForwardPushSolver;
 use runs::entries::Settings;
 
@@ -8,6 +8,8 @@ use runs::entries::Settings;
 pub enum Call {
     Forward,
     Backward,
+    Bidirectional,
+    Adaptive,
 }
 
 impl Call {
@@ -15,6 +17,8 @@ impl Call {
         match self {
             Call::Forward => "solve_single_source",
             Call::Backward => "solve_single_target",
+            Call::Bidirectional => "solve_bidirectional",
+            Call::Adaptive => "adaptive_solve",
         }
     }
 }
@@ -26,7 +30,7 @@ pub struct Ends {
     pub target: u32,
 }
 
-/// What both sides come to: the norm of a solve and its pushes.
+/// What both sides come to: the norm of a solve and its pushes, or a score.
 pub struct Done {
     pub pushes: usize,
     pub number: f64,
@@ -36,6 +40,7 @@ pub struct Done {
 pub enum Theirs {
     Forward(ForwardPushSolver),
     Backward(BackwardPushSolver),
+    Both(BidirectionalPushSolver),
 }
 
 impl Theirs {
@@ -43,10 +48,11 @@ impl Theirs {
         match call {
             Call::Forward => Self::Forward(ForwardPushSolver::new(graph, settings.forward())),
             Call::Backward => Self::Backward(BackwardPushSolver::new(graph, settings.backward())),
+            _ => Self::Both(BidirectionalPushSolver::new(graph, settings.forward(), settings.backward())),
         }
     }
 
-    pub fn solve(&self, ends: Ends) -> Done {
+    pub fn solve(&self, call: Call, ends: Ends) -> Done {
         let (source, target) = (ends.source as usize, ends.target as usize);
         match self {
             Self::Forward(solver) => {
@@ -57,6 +63,10 @@ impl Theirs {
                 let result = solver.solve_single_target(target);
                 Done { pushes: result.push_count, number: result.residual_norm }
             }
+            Self::Both(solver) if call == Call::Adaptive => {
+                Done { pushes: 0, number: solver.adaptive_solve(source, target) }
+            }
+            Self::Both(solver) => Done { pushes: 0, number: solver.solve_bidirectional(source, target) },
         }
     }
 }

@@ -40,7 +40,7 @@ macro_rules! solve {
 fn of_links(call: &Call, question: Question, given: Links, many: &[u32], mut lent: Lending) -> Returned {
     let wish = &call.wish;
     let (source, target, precision) = (wish.source, wish.target, wish.precision);
-    let settings = wish.settings;
+    let (settings, backward) = (wish.settings, wish.backward_settings);
     match (question.task, question.solver) {
         (Task::Single, Solver::Forward) => {
             Solved(solve!(solve_single_source_links(given, source, settings), lent: pair, rows, reals, queue))
@@ -72,14 +72,21 @@ fn of_links(call: &Call, question: Question, given: Links, many: &[u32], mut len
             reachability_probabilities_links(given, target, settings),
             lent: pair, reals, rows, rows, reals, reals, queue
         )),
-        (Task::Together | Task::Adaptive, _) => unreachable!("the library does not export it yet"),
+        (Task::Together, _) => Scored(solve!(
+            solve_bidirectional_links(given, source, target, settings, backward),
+            lent: pair, pair, rows, rows, reals, reals, queue
+        )),
+        (Task::Adaptive, _) => Scored(solve!(
+            adaptive_solve_links(given, source, target, settings, backward),
+            lent: pair, pair, rows, rows, reals, reals, queue
+        )),
     }
 }
 
 fn of_rows(call: &Call, question: Question, given: Rows, many: &[u32], mut lent: Lending) -> Returned {
     let wish = &call.wish;
     let (source, target, precision) = (wish.source, wish.target, wish.precision);
-    let settings = wish.settings;
+    let (settings, backward) = (wish.settings, wish.backward_settings);
     match (question.task, question.solver) {
         (Task::Single, Solver::Forward) => {
             Solved(solve!(solve_single_source_rows(given, source, settings), lent: pair, reals, queue))
@@ -111,6 +118,13 @@ fn of_rows(call: &Call, question: Question, given: Rows, many: &[u32], mut lent:
             reachability_probabilities_rows(given, target, settings),
             lent: pair, reals, rows, reals, reals, queue
         )),
-        (Task::Together | Task::Adaptive, _) => unreachable!("the library does not export it yet"),
+        (Task::Together, _) => Scored(solve!(
+            solve_bidirectional_rows(given, source, target, settings, backward),
+            lent: pair, pair, rows, reals, reals, queue
+        )),
+        (Task::Adaptive, _) => Scored(solve!(
+            adaptive_solve_rows(given, source, target, settings, backward),
+            lent: pair, pair, rows, reals, reals, queue
+        )),
     }
 }
