@@ -1,6 +1,6 @@
 -- An offer leaves the buffers as they are, or the node enters: it is put at the last place, and climbs. Assumes nothing.
 use mathlib.Core.Path.{_≡_, refl, sym, ap, ap₂, _∙_, subst}
-use mathlib.Core.Bool.{true, false, true≢false, false≢true}
+use mathlib.Core.Bool.{Bool, true, false, true≢false, false≢true}
 use mathlib.Core.List.{List}
 use Prim.Native.Nat.{ℕ, suc, _+_, _<_}
 use native.Mathlib.Nat.{le-refl}
@@ -56,10 +56,13 @@ module _ (size : ℕ) (ps : List Float) (ns ws : List ℕ) (H : Heap size ps ns 
   pub stays-below : (t p : Float) → le t p ≡ false → Holds (offered t v p slots) (length ps) (length ws) size ps ns ws
   stays-below t p below = stays (offered t v p slots) (offered-below t v p slots below)
 
-  pub stays-held : (t p : Float) → le t p ≡ true → marked ws v ≡ true → Holds (offered t v p slots) (length ps) (length ws) size ps ns ws
-  stays-held t p reach m =
-      let s = is-held (getD slots v out) (sym (H .marks-agree v hv) ∙ m) in
-      stays (offered t v p slots) (offered-held t v p slots (s .0) reach (s .1))
+  -- whatever the priority
+  pub stays-held : (t p : Float) → marked ws v ≡ true → Holds (offered t v p slots) (length ps) (length ws) size ps ns ws
+  stays-held t p m = go (le t p) refl
+    where
+      go : (b : Bool) → le t p ≡ b → Holds (offered t v p slots) (length ps) (length ws) size ps ns ws
+      go true reach = let s = is-held (getD slots v out) (sym (H .marks-agree v hv) ∙ m) in stays (offered t v p slots) (offered-held t v p slots (s .0) reach (s .1))
+      go false below = stays-below t p below
 
   -- ---- the node enters
   module _ (t p : Float) (reach : le t p ≡ true) (m : marked ws v ≡ false) (ps′ : List Float) (ns′ ws′ : List ℕ) (same-ps : length ps′ ≡ length ps)

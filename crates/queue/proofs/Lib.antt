@@ -1,4 +1,4 @@
--- The laws that the proofs of `queue` share. `Taken`, `Offer` and `Settle` are also for whoever builds rules on the queue.
+-- The laws that the proofs of `queue` share. `Taken`, `Offer`, `Settle` and `Enter` are also for whoever builds on the queue.
 mod Under
 mod Stores
 mod Exchanging
@@ -9,5 +9,5 @@ pub mod Offer
 mod Filled
 pub mod Settle
 mod Best
-mod Enter
+pub mod Enter
 mod Leave

@@ -49,7 +49,7 @@ fn share(backward: bool, rest: f64, degree: f64, weight: f64, out: f64) -> f64
     }
 }
 
-// The node v is offered at its residual over e.
+// The node v is offered at its residual over e. One that waits stays as it is, so for it neither is looked up.
 fn offer_node(
     q: WorkQueue,
     v: u32,
@@ -64,6 +64,9 @@ fn offer_node(
         (now (residual .entry)) q (now (priorities .entry)) (now (nodes .entry))
         (now (residual .entry)) r (now (priorities .exit)) (now (nodes .exit)) (now (queued .exit)) ⌝ }
 {
+    if marks::is_marked(queued, v) {
+        return q;
+    }
     let at = v as usize;
     let priority = residual[at] / effective(degrees[at]);
     queue::push_if_threshold(q, priorities, nodes, queued, v, priority)

@@ -20,7 +20,7 @@ returns c =
     let a = s .args in (
       refl,
       stays-held (a .q .size) (a .priorities .now) (a .nodes .now) (a .marks .now) (s .pre .0) (a .v) (s .pre .1) (a .q .threshold) (a .priority)
-          (c .before .before .before .if1 .taken) (sym (c .before .is-marked .ensures) ∙ c .if2 .taken),
+          (sym (c .before .is-marked .ensures) ∙ c .if2 .taken),
     )
 
 -- the node has no mark, so there is a place left

@@ -1,10 +1,26 @@
--- `solver::offer_node` meets its contract, by `offer-state`. Assumes nothing.
-use mathlib.Core.Path.{_∙_}
+-- `solver::offer_node` meets its contract, by `offer-state`: a node that waits is left as it is whatever it is offered at (`stays-held`). Assumes nothing.
+use mathlib.Core.Path.{refl, sym, _∙_}
 use denote.Ref.{now}
+use Rattle.queue.proofs.Enter.{stays-held}
 use Rattle.solver.proofs.Moves.{offer-state}
 use borrow.Author.Needs.{needs}
 use Rattle.solver.proofs.offer_node.Statement.{statement}
 use Rattle.solver.proofs.offer_node.Tie as tie
+
+is-marked-requires : tie.Need-is-marked-requires
+is-marked-requires c κs = search needs
+
+same-length : tie.Need-same-length
+same-length c = search needs
+
+returns : tie.Need-returns
+returns c =
+    let s = c .before .before .before .before .before .before .before .before in
+    let a = s .args in
+    let l = s .pre .lent in
+    let h = stays-held (a .q .size) (now (a .priorities)) (now (a .nodes)) (now (a .queued)) (l .heap) (a .v) (rw (l .wide) (s .pre .below)) (a .q .threshold) _
+        (sym (c .before .is-marked .ensures) ∙ c .if1 .taken) in
+    record { lent = l; state = λ way d. offer-state way _ (a .v) _ (now (a .residual)) (a .q) (a .q) (now (a .priorities)) (now (a .nodes)) _ _ d refl (h .view) }
 
 mul-priority : tie.Need-mul-priority
 mul-priority c = search needs
@@ -24,18 +40,18 @@ effective-requires c κs = search needs
 push-if-threshold-requires : tie.Need-push-if-threshold-requires
 push-if-threshold-requires c κs = search needs
 
-same-length : tie.Need-same-length
-same-length c = search needs
-
 same-length-2 : tie.Need-same-length-2
 same-length-2 c = search needs
 
 same-length-3 : tie.Need-same-length-3
 same-length-3 c = search needs
 
-returns : tie.Need-returns
-returns c =
-    let s = c .before .before .before .before .before .before .before .before .before .before .before .before .before .before .before .before .before .before in
+same-length-4 : tie.Need-same-length-4
+same-length-4 c = search needs
+
+returns-2 : tie.Need-returns-2
+returns-2 c =
+    let s = c .before .before .before .before .before .before .before .before .before .before .before .before .before .before .before .before .before .before .before .before .before in
     let a = s .args in
     let o = c .before .before .before .before .before .before .push-if-threshold in
     record {
@@ -48,13 +64,16 @@ pub offer-node-spec : {M : Type 1} → statement M
 offer-node-spec =
     tie.close
     (tie.spec
+    is-marked-requires
+    same-length
+    returns
     mul-priority
     shared-slice-read-priority
     mul-effective
     shared-slice-read-effective
     effective-requires
     push-if-threshold-requires
-    same-length
     same-length-2
     same-length-3
-    returns)
+    same-length-4
+    returns-2)
