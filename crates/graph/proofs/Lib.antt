@@ -2,10 +2,9 @@
 pub mod Links
 pub mod Slab
 pub mod Sums
-pub mod Bands
+pub mod Growing
 pub mod Counts
 pub mod Sorting
-pub mod Passes
 pub mod Inside
 pub mod Compress
 pub mod Read
