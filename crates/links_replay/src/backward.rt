@@ -1,11 +1,10 @@
-// The backward calls with a list of links: each function here makes its own, or hands on to the next. The first is the
-// one that is lent a solution.
+// The five backward calls with a list of links, of which one is lent a solution.
 use calls::Solved;
 use solve_records::Given;
 use solve_records::questions;
 
-// The scores extrapolated, or another call.
-pub fn reachability(
+// The backward call that is given.
+pub fn pushed_backward(
     given: Given,
     from: &[u32],
     to: &[u32],
@@ -27,13 +26,15 @@ pub fn reachability(
     queued: &mut [u64],
     visited: &mut [u64],
 ) -> Solved {
-    if given.call != questions::REACHABILITY {
-        return multi_target(
-            given,
+    let settings = given.settings;
+    if given.call == questions::MULTI_TARGET {
+        return backward_push_links::multi_target::solve_multi_target_links(
+            given.nodes,
             from,
             to,
             weight,
             targets,
+            settings,
             estimate,
             residual,
             starts,
@@ -50,7 +51,81 @@ pub fn reachability(
             visited,
         );
     }
-    let settings = given.settings;
+    if given.call == questions::SINGLE_TARGET {
+        return backward_push_links::single_target::solve_single_target_links(
+            given.nodes,
+            from,
+            to,
+            weight,
+            given.target,
+            settings,
+            estimate,
+            residual,
+            starts,
+            columns,
+            weights,
+            reverse_starts,
+            reverse_columns,
+            reverse_weights,
+            in_degrees,
+            out_degrees,
+            priorities,
+            nodes,
+            queued,
+            visited,
+        );
+    }
+    if given.call == questions::WITH_SOURCE {
+        return backward_push_links::with_source::solve_with_source_links(
+            given.nodes,
+            from,
+            to,
+            weight,
+            given.source,
+            given.target,
+            given.precision,
+            settings,
+            estimate,
+            residual,
+            starts,
+            columns,
+            weights,
+            reverse_starts,
+            reverse_columns,
+            reverse_weights,
+            in_degrees,
+            out_degrees,
+            priorities,
+            nodes,
+            queued,
+            visited,
+        );
+    }
+    if given.call == questions::TRANSITION_PROBABILITY {
+        return solve_records::scored(backward_push_links::transition_probability::query_transition_probability_links(
+            given.nodes,
+            from,
+            to,
+            weight,
+            given.source,
+            given.target,
+            settings,
+            estimate,
+            residual,
+            starts,
+            columns,
+            weights,
+            reverse_starts,
+            reverse_columns,
+            reverse_weights,
+            in_degrees,
+            out_degrees,
+            priorities,
+            nodes,
+            queued,
+            visited,
+        ));
+    }
     solve_records::numbered(backward_push_links::reachability::reachability_probabilities_links(
         given.nodes,
         from,
@@ -61,260 +136,6 @@ pub fn reachability(
         estimate,
         residual,
         solution,
-        starts,
-        columns,
-        weights,
-        reverse_starts,
-        reverse_columns,
-        reverse_weights,
-        in_degrees,
-        out_degrees,
-        priorities,
-        nodes,
-        queued,
-        visited,
-    ))
-}
-
-// A solve from many targets, or another call.
-fn multi_target(
-    given: Given,
-    from: &[u32],
-    to: &[u32],
-    weight: &[f64],
-    targets: &[u32],
-    estimate: &mut [f64],
-    residual: &mut [f64],
-    starts: &mut [u32],
-    columns: &mut [u32],
-    weights: &mut [f64],
-    reverse_starts: &mut [u32],
-    reverse_columns: &mut [u32],
-    reverse_weights: &mut [f64],
-    in_degrees: &mut [f64],
-    out_degrees: &mut [f64],
-    priorities: &mut [f64],
-    nodes: &mut [u32],
-    queued: &mut [u64],
-    visited: &mut [u64],
-) -> Solved {
-    if given.call != questions::MULTI_TARGET {
-        return single_target(
-            given,
-            from,
-            to,
-            weight,
-            estimate,
-            residual,
-            starts,
-            columns,
-            weights,
-            reverse_starts,
-            reverse_columns,
-            reverse_weights,
-            in_degrees,
-            out_degrees,
-            priorities,
-            nodes,
-            queued,
-            visited,
-        );
-    }
-    let settings = given.settings;
-    backward_push_links::multi_target::solve_multi_target_links(
-        given.nodes,
-        from,
-        to,
-        weight,
-        targets,
-        settings,
-        estimate,
-        residual,
-        starts,
-        columns,
-        weights,
-        reverse_starts,
-        reverse_columns,
-        reverse_weights,
-        in_degrees,
-        out_degrees,
-        priorities,
-        nodes,
-        queued,
-        visited,
-    )
-}
-
-// A solve from one target, or another call.
-fn single_target(
-    given: Given,
-    from: &[u32],
-    to: &[u32],
-    weight: &[f64],
-    estimate: &mut [f64],
-    residual: &mut [f64],
-    starts: &mut [u32],
-    columns: &mut [u32],
-    weights: &mut [f64],
-    reverse_starts: &mut [u32],
-    reverse_columns: &mut [u32],
-    reverse_weights: &mut [f64],
-    in_degrees: &mut [f64],
-    out_degrees: &mut [f64],
-    priorities: &mut [f64],
-    nodes: &mut [u32],
-    queued: &mut [u64],
-    visited: &mut [u64],
-) -> Solved {
-    if given.call != questions::SINGLE_TARGET {
-        return with_source(
-            given,
-            from,
-            to,
-            weight,
-            estimate,
-            residual,
-            starts,
-            columns,
-            weights,
-            reverse_starts,
-            reverse_columns,
-            reverse_weights,
-            in_degrees,
-            out_degrees,
-            priorities,
-            nodes,
-            queued,
-            visited,
-        );
-    }
-    let settings = given.settings;
-    backward_push_links::single_target::solve_single_target_links(
-        given.nodes,
-        from,
-        to,
-        weight,
-        given.target,
-        settings,
-        estimate,
-        residual,
-        starts,
-        columns,
-        weights,
-        reverse_starts,
-        reverse_columns,
-        reverse_weights,
-        in_degrees,
-        out_degrees,
-        priorities,
-        nodes,
-        queued,
-        visited,
-    )
-}
-
-// A solve that watches a source, or a query.
-fn with_source(
-    given: Given,
-    from: &[u32],
-    to: &[u32],
-    weight: &[f64],
-    estimate: &mut [f64],
-    residual: &mut [f64],
-    starts: &mut [u32],
-    columns: &mut [u32],
-    weights: &mut [f64],
-    reverse_starts: &mut [u32],
-    reverse_columns: &mut [u32],
-    reverse_weights: &mut [f64],
-    in_degrees: &mut [f64],
-    out_degrees: &mut [f64],
-    priorities: &mut [f64],
-    nodes: &mut [u32],
-    queued: &mut [u64],
-    visited: &mut [u64],
-) -> Solved {
-    if given.call != questions::WITH_SOURCE {
-        return transition_probability(
-            given,
-            from,
-            to,
-            weight,
-            estimate,
-            residual,
-            starts,
-            columns,
-            weights,
-            reverse_starts,
-            reverse_columns,
-            reverse_weights,
-            in_degrees,
-            out_degrees,
-            priorities,
-            nodes,
-            queued,
-            visited,
-        );
-    }
-    let settings = given.settings;
-    backward_push_links::with_source::solve_with_source_links(
-        given.nodes,
-        from,
-        to,
-        weight,
-        given.source,
-        given.target,
-        given.precision,
-        settings,
-        estimate,
-        residual,
-        starts,
-        columns,
-        weights,
-        reverse_starts,
-        reverse_columns,
-        reverse_weights,
-        in_degrees,
-        out_degrees,
-        priorities,
-        nodes,
-        queued,
-        visited,
-    )
-}
-
-// A query of a transition probability.
-fn transition_probability(
-    given: Given,
-    from: &[u32],
-    to: &[u32],
-    weight: &[f64],
-    estimate: &mut [f64],
-    residual: &mut [f64],
-    starts: &mut [u32],
-    columns: &mut [u32],
-    weights: &mut [f64],
-    reverse_starts: &mut [u32],
-    reverse_columns: &mut [u32],
-    reverse_weights: &mut [f64],
-    in_degrees: &mut [f64],
-    out_degrees: &mut [f64],
-    priorities: &mut [f64],
-    nodes: &mut [u32],
-    queued: &mut [u64],
-    visited: &mut [u64],
-) -> Solved {
-    let settings = given.settings;
-    solve_records::scored(backward_push_links::transition_probability::query_transition_probability_links(
-        given.nodes,
-        from,
-        to,
-        weight,
-        given.source,
-        given.target,
-        settings,
-        estimate,
-        residual,
         starts,
         columns,
         weights,

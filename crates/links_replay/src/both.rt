@@ -1,10 +1,10 @@
-// The calls of both ways with a list of links: each function here makes its own, or hands on to the next.
+// The two calls of both ways with a list of links.
 use calls::Solved;
 use solve_records::Given;
 use solve_records::questions;
 
-// A solve from both ends, or the adaptive one.
-pub fn bidirectional(
+// The call of both ways that is given.
+pub fn pushed_both_ways(
     given: Given,
     from: &[u32],
     to: &[u32],
@@ -26,12 +26,18 @@ pub fn bidirectional(
     queued: &mut [u64],
     visited: &mut [u64],
 ) -> Solved {
-    if given.call != questions::BIDIRECTIONAL {
-        return adaptive(
-            given,
+    let settings = given.settings;
+    let backward_settings = given.backward_settings;
+    if given.call == questions::BIDIRECTIONAL {
+        return solve_records::scored(bidirectional_push_links::bidirectional::solve_bidirectional_links(
+            given.nodes,
             from,
             to,
             weight,
+            given.source,
+            given.target,
+            settings,
+            backward_settings,
             forward_estimate,
             forward_residual,
             backward_estimate,
@@ -48,63 +54,8 @@ pub fn bidirectional(
             nodes,
             queued,
             visited,
-        );
+        ));
     }
-    let settings = given.settings;
-    let backward_settings = given.backward_settings;
-    solve_records::scored(bidirectional_push_links::bidirectional::solve_bidirectional_links(
-        given.nodes,
-        from,
-        to,
-        weight,
-        given.source,
-        given.target,
-        settings,
-        backward_settings,
-        forward_estimate,
-        forward_residual,
-        backward_estimate,
-        backward_residual,
-        starts,
-        columns,
-        weights,
-        reverse_starts,
-        reverse_columns,
-        reverse_weights,
-        in_degrees,
-        out_degrees,
-        priorities,
-        nodes,
-        queued,
-        visited,
-    ))
-}
-
-// A solve by the way that the degrees decide.
-fn adaptive(
-    given: Given,
-    from: &[u32],
-    to: &[u32],
-    weight: &[f64],
-    forward_estimate: &mut [f64],
-    forward_residual: &mut [f64],
-    backward_estimate: &mut [f64],
-    backward_residual: &mut [f64],
-    starts: &mut [u32],
-    columns: &mut [u32],
-    weights: &mut [f64],
-    reverse_starts: &mut [u32],
-    reverse_columns: &mut [u32],
-    reverse_weights: &mut [f64],
-    in_degrees: &mut [f64],
-    out_degrees: &mut [f64],
-    priorities: &mut [f64],
-    nodes: &mut [u32],
-    queued: &mut [u64],
-    visited: &mut [u64],
-) -> Solved {
-    let settings = given.settings;
-    let backward_settings = given.backward_settings;
     solve_records::scored(bidirectional_push_links::adaptive::adaptive_solve_links(
         given.nodes,
         from,

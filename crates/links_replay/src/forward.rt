@@ -1,10 +1,10 @@
-// The forward calls with a list of links: each function here makes its own, or hands on to the next.
+// The four forward calls with a list of links.
 use calls::Solved;
 use solve_records::Given;
 use solve_records::questions;
 
-// A solve from many sources, or another call.
-pub fn multi_source(
+// The forward call that is given.
+pub fn pushed_forward(
     given: Given,
     from: &[u32],
     to: &[u32],
@@ -21,12 +21,15 @@ pub fn multi_source(
     queued: &mut [u64],
     visited: &mut [u64],
 ) -> Solved {
-    if given.call != questions::MULTI_SOURCE {
-        return single_source(
-            given,
+    let settings = given.settings;
+    if given.call == questions::MULTI_SOURCE {
+        return forward_push_links::multi_source::solve_multi_source_links(
+            given.nodes,
             from,
             to,
             weight,
+            sources,
+            settings,
             estimate,
             residual,
             starts,
@@ -39,50 +42,14 @@ pub fn multi_source(
             visited,
         );
     }
-    let settings = given.settings;
-    forward_push_links::multi_source::solve_multi_source_links(
-        given.nodes,
-        from,
-        to,
-        weight,
-        sources,
-        settings,
-        estimate,
-        residual,
-        starts,
-        columns,
-        weights,
-        degrees,
-        priorities,
-        nodes,
-        queued,
-        visited,
-    )
-}
-
-// A solve from one source, or another call.
-fn single_source(
-    given: Given,
-    from: &[u32],
-    to: &[u32],
-    weight: &[f64],
-    estimate: &mut [f64],
-    residual: &mut [f64],
-    starts: &mut [u32],
-    columns: &mut [u32],
-    weights: &mut [f64],
-    degrees: &mut [f64],
-    priorities: &mut [f64],
-    nodes: &mut [u32],
-    queued: &mut [u64],
-    visited: &mut [u64],
-) -> Solved {
-    if given.call != questions::SINGLE_SOURCE {
-        return with_target(
-            given,
+    if given.call == questions::SINGLE_SOURCE {
+        return forward_push_links::single_source::solve_single_source_links(
+            given.nodes,
             from,
             to,
             weight,
+            given.source,
+            settings,
             estimate,
             residual,
             starts,
@@ -95,50 +62,16 @@ fn single_source(
             visited,
         );
     }
-    let settings = given.settings;
-    forward_push_links::single_source::solve_single_source_links(
-        given.nodes,
-        from,
-        to,
-        weight,
-        given.source,
-        settings,
-        estimate,
-        residual,
-        starts,
-        columns,
-        weights,
-        degrees,
-        priorities,
-        nodes,
-        queued,
-        visited,
-    )
-}
-
-// A solve that watches a target, or a query.
-fn with_target(
-    given: Given,
-    from: &[u32],
-    to: &[u32],
-    weight: &[f64],
-    estimate: &mut [f64],
-    residual: &mut [f64],
-    starts: &mut [u32],
-    columns: &mut [u32],
-    weights: &mut [f64],
-    degrees: &mut [f64],
-    priorities: &mut [f64],
-    nodes: &mut [u32],
-    queued: &mut [u64],
-    visited: &mut [u64],
-) -> Solved {
-    if given.call != questions::WITH_TARGET {
-        return single_entry(
-            given,
+    if given.call == questions::WITH_TARGET {
+        return forward_push_links::with_target::solve_with_target_links(
+            given.nodes,
             from,
             to,
             weight,
+            given.source,
+            given.target,
+            given.precision,
+            settings,
             estimate,
             residual,
             starts,
@@ -151,47 +84,6 @@ fn with_target(
             visited,
         );
     }
-    let settings = given.settings;
-    forward_push_links::with_target::solve_with_target_links(
-        given.nodes,
-        from,
-        to,
-        weight,
-        given.source,
-        given.target,
-        given.precision,
-        settings,
-        estimate,
-        residual,
-        starts,
-        columns,
-        weights,
-        degrees,
-        priorities,
-        nodes,
-        queued,
-        visited,
-    )
-}
-
-// A query of a single entry.
-fn single_entry(
-    given: Given,
-    from: &[u32],
-    to: &[u32],
-    weight: &[f64],
-    estimate: &mut [f64],
-    residual: &mut [f64],
-    starts: &mut [u32],
-    columns: &mut [u32],
-    weights: &mut [f64],
-    degrees: &mut [f64],
-    priorities: &mut [f64],
-    nodes: &mut [u32],
-    queued: &mut [u64],
-    visited: &mut [u64],
-) -> Solved {
-    let settings = given.settings;
     solve_records::scored(forward_push_links::single_entry::query_single_entry_links(
         given.nodes,
         from,

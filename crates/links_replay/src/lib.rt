@@ -33,7 +33,7 @@ pub fn answer(
     visited: &mut [u64],
 ) -> Solved {
     if given.call < questions::MULTI_TARGET {
-        return forward::multi_source(
+        return forward::pushed_forward(
             given,
             from,
             to,
@@ -52,7 +52,7 @@ pub fn answer(
         );
     }
     if given.call < questions::BIDIRECTIONAL {
-        return backward::reachability(
+        return backward::pushed_backward(
             given,
             from,
             to,
@@ -75,7 +75,7 @@ pub fn answer(
             visited,
         );
     }
-    both::bidirectional(
+    both::pushed_both_ways(
         given,
         from,
         to,

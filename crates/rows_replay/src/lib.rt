@@ -31,7 +31,7 @@ pub fn answer<'a>(
     visited: &mut [u64],
 ) -> Solved {
     if given.call < questions::MULTI_TARGET {
-        return forward::multi_source(
+        return forward::pushed_forward(
             given,
             starts,
             columns,
@@ -47,7 +47,7 @@ pub fn answer<'a>(
         );
     }
     if given.call < questions::BIDIRECTIONAL {
-        return backward::reachability(
+        return backward::pushed_backward(
             given,
             starts,
             columns,
@@ -67,7 +67,7 @@ pub fn answer<'a>(
             visited,
         );
     }
-    both::bidirectional(
+    both::pushed_both_ways(
         given,
         starts,
         columns,
