@@ -124,6 +124,11 @@ impl Entry {
         matches!(self, Entry::Solve(Question { solver: Solver::Bidirectional, .. }, _))
     }
 
+    /// Whether it pushes forward alone.
+    pub fn pushes_forward(self) -> bool {
+        matches!(self, Entry::Solve(Question { solver: Solver::Forward, .. }, _))
+    }
+
     /// The three buffers of its graph, which it reads.
     pub fn given(self) -> &'static [Shape; 3] {
         if self.takes_rows() { &shape::ROWS } else { &shape::LIST }

@@ -1,12 +1,10 @@
 //! Records what the repaired Rust answers, for programs of Rattle to replay through the proved library. A recording is
 //! seeded, so it comes out the same every time.
 //!
-//! `record queue > crates/queue_check/stdin`, `record forward > crates/forward_check/stdin`,
-//! `record backward > crates/backward_check/stdin`
-mod backward;
-mod forward;
+//! `record queue > crates/queue_check/stdin`, `record solver > crates/solver_check/stdin`
 mod queue;
 mod recorder;
+mod solver;
 mod solves;
 
 use runs::random::Random;
@@ -20,10 +18,9 @@ fn one_of<T: Copy>(random: &mut Random, choices: &[T]) -> T {
 fn main() -> io::Result<()> {
     let recording = match env::args().nth(1).as_deref() {
         Some("queue") => queue::recording(),
-        Some("forward") => forward::recording(),
-        Some("backward") => backward::recording(),
+        Some("solver") => solver::recording(),
         _ => {
-            eprintln!("record queue, record forward, or record backward");
+            eprintln!("record queue, or record solver");
             process::exit(2)
         }
     };

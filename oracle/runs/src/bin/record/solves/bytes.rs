@@ -24,8 +24,10 @@ impl Bytes {
         self.pad(2 * (room - list.len()));
     }
 
+    /// Floats, with one pattern for every NaN: which of them a computation gives is not fixed.
     pub fn floats(&mut self, list: &[f64], room: usize) {
-        for number in list {
+        for &number in list {
+            let number = if number.is_nan() { f64::NAN } else { number };
             self.0.extend(number.to_bits().to_le_bytes());
         }
         self.pad(8 * (room - list.len()));

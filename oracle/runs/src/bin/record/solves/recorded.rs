@@ -4,7 +4,6 @@ use runs::calls::call::{Call, Wish};
 use runs::calls::entry::{Entry, Form, Question};
 use runs::calls::given;
 use runs::calls::outcome::{Contents, Outcome, Returned};
-use runs::calls::shape::Size;
 use runs::calls::theirs::Theirs;
 use runs::entries::Settings;
 
@@ -45,18 +44,18 @@ impl Recorded {
         Self { call, read }
     }
 
-    /// The length of each buffer that is lent to be written, by these names; 0 where the call has none of the name.
-    pub fn written(&self, names: &[&str]) -> Vec<usize> {
+    /// The length of each buffer of workspace, by its names; 0 where the call has none of them.
+    pub fn workspace(&self, names: &[&[&str]]) -> Vec<usize> {
         let shapes = self.call.entry.written();
-        let length = |name: &&str| shapes.iter().position(|shape| shape.name == *name).map(|at| self.call.lengths[at]);
-        names.iter().map(|name| length(name).unwrap_or(0)).collect()
+        let place = |names: &&[&str]| shapes.iter().position(|shape| names.contains(&shape.name));
+        names.iter().map(|names| place(names).map_or(0, |at| self.call.lengths[at])).collect()
     }
 
-    /// The length of each buffer of the answer, of a call that is lent rows besides: these follow.
-    pub fn answers(&self) -> &[usize] {
+    /// The length of each buffer of the answer: what is lent to be written and is no workspace.
+    pub fn answers(&self, workspace: &[&[&str]]) -> Vec<usize> {
         let shapes = self.call.entry.written();
-        let end = shapes.iter().position(|shape| shape.size != Size::Nodes).expect("rows");
-        &self.call.lengths[..end]
+        let lent = shapes.iter().zip(&self.call.lengths);
+        lent.filter(|(shape, _)| !workspace.concat().contains(&shape.name)).map(|(_, &length)| length).collect()
     }
 
     /// What the Rust answers to a sound call.

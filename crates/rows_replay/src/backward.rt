@@ -1,0 +1,134 @@
+// The five backward calls with rows, of which one is lent a solution.
+use calls::Solved;
+use solve_records::Given;
+use solve_records::questions;
+
+// The backward call that is given.
+pub fn pushed_backward<'a>(
+    given: Given,
+    starts: &[u32],
+    columns: &'a [u32],
+    weights: &'a [f64],
+    targets: &[u32],
+    estimate: &mut [f64],
+    residual: &mut [f64],
+    solution: &mut [f64],
+    reverse_starts: &mut [u32],
+    reverse_columns: &mut [u32],
+    reverse_weights: &mut [f64],
+    in_degrees: &mut [f64],
+    out_degrees: &mut [f64],
+    priorities: &mut [f64],
+    nodes: &mut [u32],
+    queued: &mut [u64],
+    visited: &mut [u64],
+) -> Solved {
+    let settings = given.settings;
+    if given.call == questions::MULTI_TARGET {
+        return backward_push_rows::multi_target::solve_multi_target_rows(
+            given.nodes,
+            starts,
+            columns,
+            weights,
+            targets,
+            settings,
+            estimate,
+            residual,
+            reverse_starts,
+            reverse_columns,
+            reverse_weights,
+            in_degrees,
+            out_degrees,
+            priorities,
+            nodes,
+            queued,
+            visited,
+        );
+    }
+    if given.call == questions::SINGLE_TARGET {
+        return backward_push_rows::single_target::solve_single_target_rows(
+            given.nodes,
+            starts,
+            columns,
+            weights,
+            given.target,
+            settings,
+            estimate,
+            residual,
+            reverse_starts,
+            reverse_columns,
+            reverse_weights,
+            in_degrees,
+            out_degrees,
+            priorities,
+            nodes,
+            queued,
+            visited,
+        );
+    }
+    if given.call == questions::WITH_SOURCE {
+        return backward_push_rows::with_source::solve_with_source_rows(
+            given.nodes,
+            starts,
+            columns,
+            weights,
+            given.source,
+            given.target,
+            given.precision,
+            settings,
+            estimate,
+            residual,
+            reverse_starts,
+            reverse_columns,
+            reverse_weights,
+            in_degrees,
+            out_degrees,
+            priorities,
+            nodes,
+            queued,
+            visited,
+        );
+    }
+    if given.call == questions::TRANSITION_PROBABILITY {
+        return solve_records::scored(backward_push_rows::transition_probability::query_transition_probability_rows(
+            given.nodes,
+            starts,
+            columns,
+            weights,
+            given.source,
+            given.target,
+            settings,
+            estimate,
+            residual,
+            reverse_starts,
+            reverse_columns,
+            reverse_weights,
+            in_degrees,
+            out_degrees,
+            priorities,
+            nodes,
+            queued,
+            visited,
+        ));
+    }
+    solve_records::numbered(backward_push_rows::reachability::reachability_probabilities_rows(
+        given.nodes,
+        starts,
+        columns,
+        weights,
+        given.target,
+        settings,
+        estimate,
+        residual,
+        solution,
+        reverse_starts,
+        reverse_columns,
+        reverse_weights,
+        in_degrees,
+        out_degrees,
+        priorities,
+        nodes,
+        queued,
+        visited,
+    ))
+}
