@@ -1,4 +1,5 @@
-// The five backward calls with a list of links, of which one is lent a solution.
+// The five backward calls with a list of links. Each is made where its number is given, and the one that is lent a
+// solution where that of no other is.
 use calls::Solved;
 use solve_records::Given;
 use solve_records::questions;

@@ -1,4 +1,5 @@
-// Makes a recorded call with a list of links: of eleven, the one that is given, on the buffers that it takes.
+// Makes a recorded call with a list of links: of eleven, the one that is given. Those that take the same
+// buffers stand together, in a file each.
 mod backward;
 mod both;
 mod forward;

@@ -1,4 +1,5 @@
-// The two calls of both ways with rows.
+// The two calls of both ways with rows. The adaptive one is made where the number of the other is not
+// given.
 use calls::Solved;
 use solve_records::Given;
 use solve_records::questions;

@@ -1,4 +1,5 @@
-// The four forward calls with rows.
+// The four forward calls with rows. Each is made where its number is given, and the query where that of
+// no solve is.
 use calls::Solved;
 use solve_records::Given;
 use solve_records::questions;

@@ -1,5 +1,5 @@
-// Makes a recorded call with rows: of eleven, the one that is given, on the buffers that it takes. Columns and
-// weights share a lifetime, as the calls have them.
+// Makes a recorded call with rows: of eleven, the one that is given. Those that take the same buffers stand
+// together, in a file each. Columns and weights share a lifetime, as the calls have them.
 mod backward;
 mod both;
 mod forward;

@@ -1,7 +1,7 @@
 //! Records what the repaired Rust's solvers answer on small graphs, one record to a call, for `crates/solver_check` to
 //! replay through the public calls. `solves::layout` says how a record is laid out.
 use crate::recorder::Recorder;
-use crate::solves::layout::{solves, vectors_record};
+use crate::solves::layout::{solves, vectors_record, COMBINED, EXTRAPOLATED};
 use crate::solves::recorded::Answer;
 use crate::solves::vectors::{self, Vectors};
 use crate::solves::{damage, drawn};
@@ -57,7 +57,7 @@ fn combined(call: &Vectors) -> Answer {
 /// The forward solves and the extrapolation of one.
 fn forward() -> Part {
     let combining = Combining {
-        number: 22,
+        number: EXTRAPOLATED,
         of: vec![single(Solver::Forward)],
         writes: 1,
         answer: extrapolated,
@@ -70,7 +70,7 @@ fn forward() -> Part {
 /// The backward solves, those of both ways, and a backward solve combined with a forward one.
 fn backward() -> Part {
     let combining = Combining {
-        number: 23,
+        number: COMBINED,
         of: vec![single(Solver::Backward), single(Solver::Forward)],
         writes: 0,
         answer: combined,
@@ -113,13 +113,17 @@ impl Part {
         }
     }
 
-    /// Every damage by itself, shared out among the calls of its form that push as many ways. Then several at once.
+    /// The solves that share the damages of this one: those of its form that push as many ways.
+    fn sharing(&self, entry: Entry) -> Vec<Entry> {
+        let kind = |entry: Entry| (entry.takes_rows(), entry.pushes_both_ways());
+        self.solves.iter().copied().filter(|&other| kind(other) == kind(entry)).collect()
+    }
+
+    /// Every damage by itself, shared out among the calls, and then several at once.
     fn refusals(&self, r: &mut Recorder, random: &mut Random) {
         for &entry in &self.solves {
-            let like = |other: &&Entry| other.takes_rows() == entry.takes_rows()
-                && other.pushes_both_ways() == entry.pushes_both_ways();
-            let sharing: Vec<&Entry> = self.solves.iter().filter(like).collect();
-            let turn = sharing.iter().position(|&&other| other == entry).expect("it is like itself");
+            let sharing = self.sharing(entry);
+            let turn = sharing.iter().position(|&other| other == entry).expect("it shares with itself");
             let all = damage::damages(entry).into_iter().enumerate();
             let kept = all.filter(|(place, damage)| self.each || damage.number != 3 || place / 2 % 2 == place % 2);
             for (place, (_, damage)) in kept.enumerate() {

@@ -14,6 +14,10 @@ const WORKSPACE: [&[&str]; 12] = [
     &["in_degrees"], &["out_degrees", "degrees"], &["priorities"], &["nodes"], &["queued"], &["visited"],
 ];
 
+/// The numbers of the calls that take vectors alone, which follow those of the solves.
+pub const EXTRAPOLATED: u32 = 22;
+pub const COMBINED: u32 = 23;
+
 /// The solves, in the order of their numbers.
 pub fn solves() -> Vec<Entry> {
     let one_way = [Task::Multi, Task::Single, Task::Watched, Task::Query];
@@ -66,8 +70,7 @@ pub fn solve_record(recorded: &Recorded, answer: &Answer) -> Vec<u8> {
     let number = solves().iter().position(|&entry| entry == call.entry).expect("one of the solves") as u32;
     let lengths = [&recorded.read[..], &recorded.answers(&WORKSPACE), &recorded.workspace(&WORKSPACE)];
     let settings = [&wish.settings, &wish.backward_settings];
-    let mut record =
-        head(number, [call.nodes, wish.source, wish.target], lengths, settings, wish.precision, answer);
+    let mut record = head(number, [call.nodes, wish.source, wish.target], lengths, settings, wish.precision, answer);
     record.nodes(&wish.many, MANY);
     record.nodes(&call.first, LINKS);
     record.nodes(&call.second, LINKS);
