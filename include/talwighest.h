@@ -1,5 +1,5 @@
-/* The public calls of the library. Link target/staticlib/libNAME.a of the crates named here. A list is a pointer and its
-   length. Every call tests its own input and returns a refusal number, 0 where it is done; docs/ENTRIES.md says what
+/* The public calls of the library. Link target/staticlib/libNAME.a of the crates named here; a call for which none is named
+   stands in the crate of its own name. A list is a pointer and its length. Every call tests its own input and returns a refusal number, 0 where it is done; docs/ENTRIES.md says what
    each takes, gives and refuses. Lists that are lent to one call must not overlap. */
 #ifndef TALWIGHEST_H
 #define TALWIGHEST_H
@@ -65,7 +65,7 @@ uint32_t extrapolated_solution(const double *estimate, size_t estimate_length,
                                double alpha,
                                double *solution, size_t solution_length);
 
-/* crates forward_push_links and forward_push_rows: estimate and residual are the answer, what follows them is workspace */
+/* the forward solver: estimate and residual are the answer, what follows them is workspace */
 
 struct Settings {
     double alpha;
@@ -217,8 +217,7 @@ struct Scored query_single_entry_rows(uint32_t n,
                                       uint64_t *queued, size_t queued_length,
                                       uint64_t *visited, size_t visited_length);
 
-/* crates backward_push_links and backward_push_rows: estimate, residual and solution are the answer, what follows them is
-   workspace */
+/* the backward solver: estimate, residual and solution are the answer, what follows them is workspace */
 
 struct Solved solve_single_target_links(uint32_t n,
                                         const uint32_t *from, size_t from_length,
@@ -431,8 +430,7 @@ struct Scored combine_with_forward(const double *backward_estimate, size_t backw
                                    const double *forward_residual, size_t forward_residual_length,
                                    double alpha);
 
-/* crates bidirectional_push_links and bidirectional_push_rows: both pairs of estimate and residual are the answer, what
-   follows them is workspace */
+/* both solvers together: both pairs of estimate and residual are the answer, what follows them is workspace */
 
 struct Scored solve_bidirectional_links(uint32_t n,
                                         const uint32_t *from, size_t from_length,

@@ -29,7 +29,7 @@ pub fn pushed_backward(
 ) -> Solved {
     let settings = given.settings;
     if given.call == questions::MULTI_TARGET {
-        return backward_push_links::multi_target::solve_multi_target_links(
+        return solve_multi_target_links::solve_multi_target_links(
             given.nodes,
             from,
             to,
@@ -53,7 +53,7 @@ pub fn pushed_backward(
         );
     }
     if given.call == questions::SINGLE_TARGET {
-        return backward_push_links::single_target::solve_single_target_links(
+        return solve_single_target_links::solve_single_target_links(
             given.nodes,
             from,
             to,
@@ -77,7 +77,7 @@ pub fn pushed_backward(
         );
     }
     if given.call == questions::WITH_SOURCE {
-        return backward_push_links::with_source::solve_with_source_links(
+        return solve_with_source_links::solve_with_source_links(
             given.nodes,
             from,
             to,
@@ -103,7 +103,7 @@ pub fn pushed_backward(
         );
     }
     if given.call == questions::TRANSITION_PROBABILITY {
-        return solve_records::scored(backward_push_links::transition_probability::query_transition_probability_links(
+        return solve_records::scored(query_transition_probability_links::query_transition_probability_links(
             given.nodes,
             from,
             to,
@@ -127,7 +127,7 @@ pub fn pushed_backward(
             visited,
         ));
     }
-    solve_records::numbered(backward_push_links::reachability::reachability_probabilities_links(
+    solve_records::numbered(reachability_probabilities_links::reachability_probabilities_links(
         given.nodes,
         from,
         to,

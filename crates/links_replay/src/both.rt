@@ -30,7 +30,7 @@ pub fn pushed_both_ways(
     let settings = given.settings;
     let backward_settings = given.backward_settings;
     if given.call == questions::BIDIRECTIONAL {
-        return solve_records::scored(bidirectional_push_links::bidirectional::solve_bidirectional_links(
+        return solve_records::scored(solve_bidirectional_links::solve_bidirectional_links(
             given.nodes,
             from,
             to,
@@ -57,7 +57,7 @@ pub fn pushed_both_ways(
             visited,
         ));
     }
-    solve_records::scored(bidirectional_push_links::adaptive::adaptive_solve_links(
+    solve_records::scored(adaptive_solve_links::adaptive_solve_links(
         given.nodes,
         from,
         to,

@@ -24,7 +24,7 @@ pub fn pushed_forward(
 ) -> Solved {
     let settings = given.settings;
     if given.call == questions::MULTI_SOURCE {
-        return forward_push_links::multi_source::solve_multi_source_links(
+        return solve_multi_source_links::solve_multi_source_links(
             given.nodes,
             from,
             to,
@@ -44,7 +44,7 @@ pub fn pushed_forward(
         );
     }
     if given.call == questions::SINGLE_SOURCE {
-        return forward_push_links::single_source::solve_single_source_links(
+        return solve_single_source_links::solve_single_source_links(
             given.nodes,
             from,
             to,
@@ -64,7 +64,7 @@ pub fn pushed_forward(
         );
     }
     if given.call == questions::WITH_TARGET {
-        return forward_push_links::with_target::solve_with_target_links(
+        return solve_with_target_links::solve_with_target_links(
             given.nodes,
             from,
             to,
@@ -85,7 +85,7 @@ pub fn pushed_forward(
             visited,
         );
     }
-    solve_records::scored(forward_push_links::single_entry::query_single_entry_links(
+    solve_records::scored(query_single_entry_links::query_single_entry_links(
         given.nodes,
         from,
         to,

@@ -26,7 +26,7 @@ pub fn pushed_backward<'a>(
 ) -> Solved {
     let settings = given.settings;
     if given.call == questions::MULTI_TARGET {
-        return backward_push_rows::multi_target::solve_multi_target_rows(
+        return solve_multi_target_rows::solve_multi_target_rows(
             given.nodes,
             starts,
             columns,
@@ -47,7 +47,7 @@ pub fn pushed_backward<'a>(
         );
     }
     if given.call == questions::SINGLE_TARGET {
-        return backward_push_rows::single_target::solve_single_target_rows(
+        return solve_single_target_rows::solve_single_target_rows(
             given.nodes,
             starts,
             columns,
@@ -68,7 +68,7 @@ pub fn pushed_backward<'a>(
         );
     }
     if given.call == questions::WITH_SOURCE {
-        return backward_push_rows::with_source::solve_with_source_rows(
+        return solve_with_source_rows::solve_with_source_rows(
             given.nodes,
             starts,
             columns,
@@ -91,7 +91,7 @@ pub fn pushed_backward<'a>(
         );
     }
     if given.call == questions::TRANSITION_PROBABILITY {
-        return solve_records::scored(backward_push_rows::transition_probability::query_transition_probability_rows(
+        return solve_records::scored(query_transition_probability_rows::query_transition_probability_rows(
             given.nodes,
             starts,
             columns,
@@ -112,7 +112,7 @@ pub fn pushed_backward<'a>(
             visited,
         ));
     }
-    solve_records::numbered(backward_push_rows::reachability::reachability_probabilities_rows(
+    solve_records::numbered(reachability_probabilities_rows::reachability_probabilities_rows(
         given.nodes,
         starts,
         columns,

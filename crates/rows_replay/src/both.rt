@@ -27,7 +27,7 @@ pub fn pushed_both_ways<'a>(
     let settings = given.settings;
     let backward_settings = given.backward_settings;
     if given.call == questions::BIDIRECTIONAL {
-        return solve_records::scored(bidirectional_push_rows::bidirectional::solve_bidirectional_rows(
+        return solve_records::scored(solve_bidirectional_rows::solve_bidirectional_rows(
             given.nodes,
             starts,
             columns,
@@ -51,7 +51,7 @@ pub fn pushed_both_ways<'a>(
             visited,
         ));
     }
-    solve_records::scored(bidirectional_push_rows::adaptive::adaptive_solve_rows(
+    solve_records::scored(adaptive_solve_rows::adaptive_solve_rows(
         given.nodes,
         starts,
         columns,

@@ -21,7 +21,7 @@ pub fn pushed_forward<'a>(
 ) -> Solved {
     let settings = given.settings;
     if given.call == questions::MULTI_SOURCE {
-        return forward_push_rows::multi_source::solve_multi_source_rows(
+        return solve_multi_source_rows::solve_multi_source_rows(
             given.nodes,
             starts,
             columns,
@@ -38,7 +38,7 @@ pub fn pushed_forward<'a>(
         );
     }
     if given.call == questions::SINGLE_SOURCE {
-        return forward_push_rows::single_source::solve_single_source_rows(
+        return solve_single_source_rows::solve_single_source_rows(
             given.nodes,
             starts,
             columns,
@@ -55,7 +55,7 @@ pub fn pushed_forward<'a>(
         );
     }
     if given.call == questions::WITH_TARGET {
-        return forward_push_rows::with_target::solve_with_target_rows(
+        return solve_with_target_rows::solve_with_target_rows(
             given.nodes,
             starts,
             columns,
@@ -73,7 +73,7 @@ pub fn pushed_forward<'a>(
             visited,
         );
     }
-    solve_records::scored(forward_push_rows::single_entry::query_single_entry_rows(
+    solve_records::scored(query_single_entry_rows::query_single_entry_rows(
         given.nodes,
         starts,
         columns,

@@ -19,7 +19,7 @@ returns c =
     let a = s .args in
     let l = s .pre .lent in
     let h = stays-held (a .q .size) (now (a .priorities)) (now (a .nodes)) (now (a .queued)) (l .heap) (a .v) (rw (l .wide) (s .pre .below)) (a .q .threshold) _
-        (sym (c .before .is-marked .ensures) ∙ c .if1 .taken) in
+    (sym (c .before .is-marked .ensures) ∙ c .if1 .taken) in
     record { lent = l; state = λ way d. offer-state way _ (a .v) _ (now (a .residual)) (a .q) (a .q) (now (a .priorities)) (now (a .nodes)) _ _ d refl (h .view) }
 
 mul-priority : tie.Need-mul-priority
