@@ -1,0 +1,29 @@
+-- A text that grows by parts: a part that is pasted behind it, and one part after another. Assumes nothing.
+use Prim.Native.Nat.{ℕ, _+_, _≤_}
+use native.Mathlib.Nat.{le-refl, add-assoc}
+use native.Mathlib.Omega.{arith}
+use mathlib.Core.List.{List, _++_, append-assoc}
+use mathlib.Core.Path.{_≡_, refl, sym, ap, _∙_}
+use lib.ListN.{length, take, length-append}
+use lib.Seq.{paste, length-paste, take-paste, take-length}
+use Rattle.job_text.specs.Text.{Grown}
+
+-- a part behind the first `at` bytes
+pub pasted-grown : (text : List ℕ) (at : ℕ) (part : List ℕ) → at + length part ≤ length text
+    → Grown at part text (at + length part) (paste text at part (length part))
+pasted-grown text at part room =
+    record {
+      next = refl;
+      same-room = length-paste text at part (length part) room (le-refl _);
+      holds = take-paste text at part (length part) (omega arith) (le-refl _) ∙ ap (λ (s : List ℕ). take at text ++ s) (take-length part);
+    }
+
+-- one part, and then another
+pub grown-then : {at r r′ : ℕ} {first second text text′ text″ : List ℕ} → Grown at first text r text′ → Grown r second text′ r′ text″
+    → Grown at (first ++ second) text r′ text″
+grown-then {at} {r} {r′} {first} {second} {text} a b =
+    record {
+      next = b .next ∙ ap (λ (k : ℕ). k + length second) (a .next) ∙ add-assoc at (length first) (length second) ∙ ap (λ (k : ℕ). at + k) (sym (length-append first second));
+      same-room = b .same-room ∙ a .same-room;
+      holds = b .holds ∙ ap (λ (s : List ℕ). s ++ second) (a .holds) ∙ append-assoc (take at text) first second;
+    }

@@ -1,0 +1,66 @@
+-- The text that a job prints, in ASCII: its numbers, its lines, and what it is for a text to have grown by a part. `Cases.antt` computes examples.
+use Prim.Native.Nat.{ℕ, zero, suc, _+_, _/_}
+use mathlib.Core.List.{List, [], _∷_, _++_}
+use mathlib.Core.Path.{_≡_}
+use lib.ListN.{length, take}
+use lib.Dec.{ltb}
+use lib.Ieee.{Float, binary64, toBits}
+use Rattle.io.specs.Digits.{digits}
+use Rattle.numbers.specs.Choice.{if_then_else_}
+
+-- ---- numbers
+
+-- how many decimal digits n has, counted up to so many and one more
+unfoldable pub places : ℕ → ℕ → ℕ
+places zero n = 1
+places (suc most) n = if ltb n 10 then 1 else suc (places most (n / 10))
+
+-- a whole number below 2 ^ 64, in decimal
+unfoldable pub decimal : ℕ → List ℕ
+decimal n = digits 10 (places 19 n) n
+
+-- a float's bits, as 16 lower-case hex digits; a NaN as 7ff8000000000000
+unfoldable pub bits : Float → List ℕ
+bits x = digits 16 16 (toBits binary64 x)
+
+-- ---- lines
+
+abbrev pub space : List ℕ
+space = 32 ∷ []
+
+abbrev pub lineEnd : List ℕ
+lineEnd = 10 ∷ []
+
+-- refused
+abbrev pub refusedWord : List ℕ
+refusedWord = 114 ∷ 101 ∷ 102 ∷ 117 ∷ 115 ∷ 101 ∷ 100 ∷ []
+
+-- done
+abbrev pub doneWord : List ℕ
+doneWord = 100 ∷ 111 ∷ 110 ∷ 101 ∷ []
+
+-- `refused` and the number
+unfoldable pub refusedLine : ℕ → List ℕ
+refusedLine number = refusedWord ++ space ++ decimal number ++ lineEnd
+
+-- `done`, pushes, visited, norm bits
+unfoldable pub doneLine : ℕ → ℕ → Float → List ℕ
+doneLine pushes visited norm = doneWord ++ space ++ decimal pushes ++ space ++ decimal visited ++ space ++ bits norm ++ lineEnd
+
+-- a node's number, estimate bits, residual bits
+unfoldable pub nodeLine : ℕ → Float → Float → List ℕ
+nodeLine v estimate residual = decimal v ++ space ++ bits estimate ++ space ++ bits residual ++ lineEnd
+
+-- the lines of the nodes from v on
+unfoldable pub nodeLines : ℕ → List Float → List Float → List ℕ
+nodeLines v [] rs = []
+nodeLines v (e ∷ es) [] = []
+nodeLines v (e ∷ es) (r ∷ rs) = nodeLine v e r ++ nodeLines (suc v) es rs
+
+-- ---- a text in a buffer
+
+-- the first `at` bytes of the text grew by a part, and the next is at r
+pub record Grown (at : ℕ) (part text : List ℕ) (r : ℕ) (text′ : List ℕ) : Type 0 where
+  pub next : r ≡ at + length part
+  pub same-room : length text′ ≡ length text
+  pub holds : take r text′ ≡ take at text ++ part

@@ -1,0 +1,49 @@
+// The text that a job prints, put piece by piece into a lent buffer. Each function asks that the buffer has room.
+ghost use mathlib.Core.Path.{_≡_};
+ghost use Prim.Native.Nat.{_+_, _≤_};
+ghost use lib.ListN.{length};
+ghost use lib.Ieee.{binary64, toBits};
+ghost use Rattle.job_text.specs.Text.{decimal, bits, Grown};
+
+// Puts a part behind the first `at` bytes, and answers where the next one goes.
+pub fn append(text: &mut [u8], at: usize, part: &[u8]) -> usize
+    requires { ⌜ (at + length (now part) ≤ length (now text)) × (length (now text) ≤ 65536) ⌝ }
+    ensures { λ r. ⌜ Grown at (now (part .entry)) (now (text .entry)) r (now (text .exit)) ⌝ }
+{
+    let mut i = 0;
+    while i < part.len() {
+        text[at + i] = part[i];
+        i += 1;
+    }
+    at + i
+}
+
+// A whole number in decimal.
+pub fn append_decimal(text: &mut [u8], at: usize, n: u64) -> usize
+    requires { ⌜ (at + 20 ≤ length (now text)) × (length (now text) ≤ 65536) ⌝ }
+    ensures { λ r. ⌜ Grown at (decimal n) (now (text .entry)) r (now (text .exit)) ⌝ }
+{
+    let mut digits = [0u8; 20];
+    let k = io::decimal(n, &mut digits);
+    append(text, at, &digits[..k])
+}
+
+// The bits of a float, of which a NaN has one pattern here.
+fn bits_of(x: f64) -> u64
+    ensures { λ r. ⌜ r ≡ toBits binary64 x ⌝ }
+{
+    if x != x {
+        return 0x7ff8_0000_0000_0000;
+    }
+    f64::to_bits(x)
+}
+
+// The bits of a float, as hex digits.
+pub fn append_bits(text: &mut [u8], at: usize, x: f64) -> usize
+    requires { ⌜ (at + 16 ≤ length (now text)) × (length (now text) ≤ 65536) ⌝ }
+    ensures { λ r. ⌜ Grown at (bits x) (now (text .entry)) r (now (text .exit)) ⌝ }
+{
+    let mut digits = [0u8; 16];
+    let k = io::hex(bits_of(x), 16, &mut digits);
+    append(text, at, &digits[..k])
+}
