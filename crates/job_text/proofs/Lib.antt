@@ -1,3 +1,3 @@
 -- The laws that the proofs of `job_text` share.
 pub mod Growing
-mod Places
+mod Numerals

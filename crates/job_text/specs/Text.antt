@@ -28,8 +28,15 @@ bits x = digits 16 16 (toBits binary64 x)
 abbrev pub space : List ℕ
 space = 32 ∷ []
 
+-- LF
 abbrev pub lineEnd : List ℕ
 lineEnd = 10 ∷ []
+
+-- fields parted by one space, and the end of the line
+abbrev pub line : List (List ℕ) → List ℕ
+line [] = lineEnd
+line (f ∷ []) = f ++ lineEnd
+line (f ∷ g ∷ fs) = f ++ (space ++ line (g ∷ fs))
 
 -- refused
 abbrev pub refusedWord : List ℕ
@@ -41,15 +48,15 @@ doneWord = 100 ∷ 111 ∷ 110 ∷ 101 ∷ []
 
 -- `refused` and the number
 unfoldable pub refusedLine : ℕ → List ℕ
-refusedLine number = refusedWord ++ space ++ decimal number ++ lineEnd
+refusedLine number = line (refusedWord ∷ decimal number ∷ [])
 
 -- `done`, pushes, visited, norm bits
 unfoldable pub doneLine : ℕ → ℕ → Float → List ℕ
-doneLine pushes visited norm = doneWord ++ space ++ decimal pushes ++ space ++ decimal visited ++ space ++ bits norm ++ lineEnd
+doneLine pushes visited norm = line (doneWord ∷ decimal pushes ∷ decimal visited ∷ bits norm ∷ [])
 
 -- a node's number, estimate bits, residual bits
 unfoldable pub nodeLine : ℕ → Float → Float → List ℕ
-nodeLine v estimate residual = decimal v ++ space ++ bits estimate ++ space ++ bits residual ++ lineEnd
+nodeLine v estimate residual = line (decimal v ∷ bits estimate ∷ bits residual ∷ [])
 
 -- the lines of the nodes from v on
 unfoldable pub nodeLines : ℕ → List Float → List Float → List ℕ

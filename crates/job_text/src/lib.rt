@@ -1,9 +1,10 @@
 // The text that a job prints, put piece by piece into a lent buffer. Each function asks that the buffer has room.
 ghost use mathlib.Core.Path.{_≡_};
-ghost use Prim.Native.Nat.{_+_, _≤_};
+ghost use Prim.Native.Nat.{_+_, _*_, _≤_};
+ghost use mathlib.Core.List.{_++_};
 ghost use lib.ListN.{length};
 ghost use lib.Ieee.{binary64, toBits};
-ghost use Rattle.job_text.specs.Text.{decimal, bits, Grown};
+ghost use Rattle.job_text.specs.Text.{decimal, bits, space, refusedLine, doneLine, nodeLine, nodeLines, Grown};
 
 // Puts a part behind the first `at` bytes, and answers where the next one goes.
 pub fn append(text: &mut [u8], at: usize, part: &[u8]) -> usize
@@ -46,4 +47,47 @@ pub fn append_bits(text: &mut [u8], at: usize, x: f64) -> usize
     let mut digits = [0u8; 16];
     let k = io::hex(bits_of(x), 16, &mut digits);
     append(text, at, &digits[..k])
+}
+
+// The line of a refusal.
+pub fn append_refused(text: &mut [u8], at: usize, number: u32) -> usize
+    requires { ⌜ (at + 64 ≤ length (now text)) × (length (now text) ≤ 65536) ⌝ }
+    ensures { λ r. ⌜ Grown at (refusedLine number) (now (text .entry)) r (now (text .exit)) ⌝ }
+{
+    let word = append(text, at, b"refused ");
+    let told = append_decimal(text, word, number as u64);
+    append(text, told, b"\n")
+}
+
+// A whole number and a space.
+fn append_count(text: &mut [u8], at: usize, n: u64) -> usize
+    requires { ⌜ (at + 21 ≤ length (now text)) × (length (now text) ≤ 65536) ⌝ }
+    ensures { λ r. ⌜ Grown at (decimal n ++ space) (now (text .entry)) r (now (text .exit)) ⌝ }
+{
+    let told = append_decimal(text, at, n);
+    append(text, told, b" ")
+}
+
+// The first line of a solve that is done.
+pub fn append_done(text: &mut [u8], at: usize, pushes: u64, visited: u64, norm: f64) -> usize
+    requires { ⌜ (at + 64 ≤ length (now text)) × (length (now text) ≤ 65536) ⌝ }
+    ensures { λ r. ⌜ Grown at (doneLine pushes visited norm) (now (text .entry)) r (now (text .exit)) ⌝ }
+{
+    let word = append(text, at, b"done ");
+    let pushed = append_count(text, word, pushes);
+    let seen = append_count(text, pushed, visited);
+    let told = append_bits(text, seen, norm);
+    append(text, told, b"\n")
+}
+
+// The line of a node.
+fn append_node(text: &mut [u8], at: usize, v: u32, estimate: f64, residual: f64) -> usize
+    requires { ⌜ (at + 64 ≤ length (now text)) × (length (now text) ≤ 65536) ⌝ }
+    ensures { λ r. ⌜ Grown at (nodeLine v estimate residual) (now (text .entry)) r (now (text .exit)) × (r ≤ at + 55) ⌝ }
+{
+    let number = append_count(text, at, v as u64);
+    let scored = append_bits(text, number, estimate);
+    let parted = append(text, scored, b" ");
+    let told = append_bits(text, parted, residual);
+    append(text, told, b"\n")
 }

@@ -2,7 +2,7 @@
 use mathlib.Core.Path.{_≡_}
 use native.Mathlib.Omega.{arith}
 use Rattle.job_text.specs.Text.{bits}
-use Rattle.job_text.proofs.Places.{fewest-few}
+use Rattle.job_text.proofs.Numerals.{fewest-few}
 use borrow.Author.Needs.{needs}
 use Rattle.job_text.proofs.append_bits.Statement.{statement}
 use Rattle.job_text.proofs.append_bits.Tie as tie

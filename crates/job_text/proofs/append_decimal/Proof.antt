@@ -1,7 +1,7 @@
 -- `job_text::append_decimal` meets its contract: what `io::decimal` gives is put behind the text. Assumes nothing.
 use native.Mathlib.Omega.{arith}
 use Rattle.job_text.specs.Text.{decimal}
-use Rattle.job_text.proofs.Places.{fewest-few, fewest-places}
+use Rattle.job_text.proofs.Numerals.{fewest-few, fewest-places}
 use borrow.Author.Needs.{needs}
 use Rattle.job_text.proofs.append_decimal.Statement.{statement}
 use Rattle.job_text.proofs.append_decimal.Tie as tie

@@ -1,0 +1,74 @@
+-- Numbers as text: how long they are, and that the fewest decimal digits that hold a number are as many as `places` counts. Assumes nothing.
+use Prim.Native.Nat.{ℕ, zero, suc, _+_, _-_, _*_, _/_, _%_, _^_, _≤_, _<_}
+use native.Mathlib.Nat.{pow-le-pow-right}
+use native.Mathlib.Numerals.{unary-clauses, add-one}
+use native.Mathlib.Decide.{decLt}
+use native.Mathlib.Omega.{arith, pow-step}
+use mathlib.Core.Bool.{Bool, true, false}
+use mathlib.Core.List.{[], _∷_, _++_}
+use mathlib.Core.Path.{_≡_, refl, ap, _∙_}
+use borrow.Author.Tests.{lt-ltb, le-ltb}
+use lib.Dec.{ltb}
+use lib.ListN.{length, length-append}
+use lib.Ieee.{Float, binary64, toBits}
+use Rattle.numbers.specs.Choice.{if_then_else_}
+use Rattle.io.specs.Digits.{glyph, digits, Fewest}
+use Rattle.job_text.specs.Text.{places, decimal, bits, space}
+
+pub fewest-few : (b least most n k : ℕ) → 0 < b → least ≤ most → n < b ^ most → Fewest b least n k → k ≤ most
+fewest-few b least most n k p h bound f = go (decLt most k)
+  where
+    go : Dec (most < k) → k ≤ most
+    go (yes more) =
+        let high : b ^ (k - 1) ≤ n = f .2 (omega arith) in
+        let low : b ^ most ≤ b ^ (k - 1) = pow-le-pow-right p (omega arith) in
+        absurd (omega arith)
+    go (no few) = omega arith
+
+pow-positive : (j : ℕ) → 1 ≤ 10 ^ j
+pow-positive zero = omega arith
+pow-positive (suc j) = omega (arith, pow-step 10 j, pow-positive j)
+
+-- counted up to one more than `most`
+pub fewest-places : (most k n : ℕ) → k ≤ suc most → Fewest 10 1 n k → k ≡ places most n
+unfolding places if_then_else_
+fewest-places most zero n h f = absurd (omega (arith, f .0))
+fewest-places zero (suc k) n h f = omega arith
+fewest-places (suc most) (suc zero) n h f = rw (lt-ltb n 10 (f .1))
+fewest-places (suc most) (suc (suc j)) n h f =
+    let low : 10 ^ j * 10 ≤ n = simp unary-clauses at (f .2 (omega arith)) in
+    let high : n < 10 * 10 ^ suc j = rw (pow-step 10 (suc j)) at (f .1) in
+    let some : 1 ≤ 10 ^ j = pow-positive j in
+    let step : 10 ^ suc j ≡ 10 * 10 ^ j = pow-step 10 j in
+    let least : 10 ^ j ≤ n / 10 = omega arith in
+    rw (le-ltb n 10 (omega arith))
+    (ap suc (fewest-places most (suc j) (n / 10) (omega arith) (omega arith, omega arith, λ _. simp unary-clauses least)))
+
+-- ---- how long a number is
+
+length-digits : (b k n : ℕ) → length (digits b k n) ≡ k
+length-digits b zero n = refl
+length-digits b (suc k) n =
+    length-append (digits b k (n / b)) (glyph (n % b) ∷ []) ∙ ap (λ (l : ℕ). l + 1) (length-digits b k (n / b)) ∙ add-one k
+
+either-few : (b : Bool) (most k : ℕ) → k ≤ most → (if b then 1 else suc k) ≤ suc most
+unfolding if_then_else_
+either-few true most k h = omega arith
+either-few false most k h = omega arith
+
+places-few : (most n : ℕ) → places most n ≤ suc most
+unfolding places
+places-few zero n = omega arith
+places-few (suc most) n = either-few (ltb n 10) (suc most) (places most (n / 10)) (places-few most (n / 10))
+
+pub length-decimal : (n : ℕ) → length (decimal n) ≤ 20
+unfolding decimal
+length-decimal n = rw (length-digits 10 (places 19 n) n) (places-few 19 n)
+
+-- with a space behind it
+pub length-count : (n : ℕ) → length (decimal n ++ space) ≤ 21
+length-count n = omega (arith, length-append (decimal n) space, length-decimal n)
+
+pub length-bits : (x : Float) → length (bits x) ≡ 16
+unfolding bits
+length-bits x = length-digits 16 16 (toBits binary64 x)
