@@ -1,8 +1,8 @@
 -- A text that grows by parts: a part that is pasted behind it, and one part after another. Assumes nothing.
 use Prim.Native.Nat.{ℕ, _+_, _≤_}
-use native.Mathlib.Nat.{le-refl, add-assoc}
+use native.Mathlib.Nat.{le-refl, add-zero, add-assoc}
 use native.Mathlib.Omega.{arith}
-use mathlib.Core.List.{List, _++_, append-assoc}
+use mathlib.Core.List.{List, [], _++_, append-assoc, append-nil}
 use mathlib.Core.Path.{_≡_, refl, sym, ap, _∙_}
 use lib.ListN.{length, take, length-append}
 use lib.Seq.{paste, length-paste, take-paste, take-length}
@@ -17,6 +17,10 @@ pasted-grown text at part room =
       same-room = length-paste text at part (length part) room (le-refl _);
       holds = take-paste text at part (length part) (omega arith) (le-refl _) ∙ ap (λ (s : List ℕ). take at text ++ s) (take-length part);
     }
+
+-- no part
+pub grown-none : (at : ℕ) (text : List ℕ) → Grown at [] text at text
+grown-none at text = record { next = sym (add-zero at); same-room = refl; holds = sym (append-nil (take at text)) }
 
 -- one part, and then another
 pub grown-then : {at r r′ : ℕ} {first second text text′ text″ : List ℕ} → Grown at first text r text′ → Grown r second text′ r′ text″

@@ -1,3 +1,4 @@
 -- The laws that the proofs of `job_text` share.
 pub mod Growing
 mod Numerals
+mod NodeLines

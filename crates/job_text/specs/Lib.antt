@@ -1,2 +1,3 @@
--- The definitions that the contracts of `job_text` cite.
+-- The definitions that the contracts of `job_text` cite, and cases of them.
 pub mod Text
+mod Cases

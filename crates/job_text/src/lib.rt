@@ -81,13 +81,27 @@ pub fn append_done(text: &mut [u8], at: usize, pushes: u64, visited: u64, norm: 
 }
 
 // The line of a node.
-fn append_node(text: &mut [u8], at: usize, v: u32, estimate: f64, residual: f64) -> usize
+fn append_node(text: &mut [u8], at: usize, v: u64, estimate: f64, residual: f64) -> usize
     requires { ⌜ (at + 64 ≤ length (now text)) × (length (now text) ≤ 65536) ⌝ }
     ensures { λ r. ⌜ Grown at (nodeLine v estimate residual) (now (text .entry)) r (now (text .exit)) × (r ≤ at + 55) ⌝ }
 {
-    let number = append_count(text, at, v as u64);
+    let number = append_count(text, at, v);
     let scored = append_bits(text, number, estimate);
     let parted = append(text, scored, b" ");
     let told = append_bits(text, parted, residual);
     append(text, told, b"\n")
+}
+
+// The lines of all nodes.
+pub fn append_nodes(text: &mut [u8], at: usize, estimate: &[f64], residual: &[f64]) -> usize
+    requires { ⌜ (length (now residual) ≡ length (now estimate)) × (at + 64 * length (now estimate) ≤ length (now text)) × (length (now text) ≤ 65536) ⌝ }
+    ensures { λ r. ⌜ Grown at (nodeLines 0 (now (estimate .entry)) (now (residual .entry))) (now (text .entry)) r (now (text .exit)) ⌝ }
+{
+    let mut next = at;
+    let mut v: usize = 0;
+    while v < estimate.len() {
+        next = append_node(text, next, v as u64, estimate[v], residual[v]);
+        v += 1;
+    }
+    next
 }
