@@ -1,0 +1,2 @@
+-- The definitions that the contracts of `job_fields` cite.
+pub mod Fields
