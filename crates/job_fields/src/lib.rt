@@ -3,7 +3,10 @@ ghost use mathlib.Core.Path.{_≡_};
 ghost use Prim.Native.Nat.{_+_, _*_, _≤_, _<_};
 ghost use lib.ListN.{length, getD};
 ghost use Rattle.numbers.specs.Numbers.{f64};
-ghost use Rattle.job_fields.specs.Fields.{wordAt, floatAt};
+ghost use mathlib.Core.Bool.{_&&_};
+ghost use lib.Dec.{eqb};
+ghost use Rattle.job_fields.specs.Fields.{wordAt, floatAt, wordsAt, floatsAt};
+ghost use Rattle.job_fields.specs.Shape.{linksIn, sourcesIn, offsets, limits, shaped};
 
 // A byte above a number of at most three.
 fn joined(byte: u8, above: u32) -> u32
@@ -42,4 +45,73 @@ pub fn float(bytes: &[u8], at: usize) -> f64
     let low = word(bytes, at) as u64;
     let high = word(bytes, at + 4) as u64;
     float_of(low + 0x1_0000_0000 * high)
+}
+
+// The greatest length of a job: 1,024 links and 16 sources.
+const LONGEST: usize = 16_504;
+
+// Whether the three offsets are as they have to be.
+fn has_offsets(bytes: &[u8]) -> bool
+    requires { ⌜ (56 ≤ length (now bytes)) × (length (now bytes) ≤ 65536) ⌝ }
+    ensures { λ r. ⌜ r ≡ offsets (now (bytes .entry)) ⌝ }
+{
+    let links = word(bytes, 4) as u64;
+    (word(bytes, 12) == 24)
+        & ((word(bytes, 16) == 56) & (word(bytes, 20) as u64 == 56 + 16 * links))
+}
+
+// Whether the header keeps a job's own limits.
+fn has_limits(bytes: &[u8]) -> bool
+    requires { ⌜ (56 ≤ length (now bytes)) × (length (now bytes) ≤ 65536) ⌝ }
+    ensures { λ r. ⌜ r ≡ limits (now (bytes .entry)) ⌝ }
+{
+    (word(bytes, 0) <= 256) & ((word(bytes, 4) <= 1024) & (word(bytes, 8) <= 16))
+}
+
+// Whether the file ends after the sources.
+fn has_length(bytes: &[u8]) -> bool
+    requires { ⌜ (56 ≤ length (now bytes)) × (length (now bytes) ≤ 65536) ⌝ }
+    ensures { λ r. ⌜ r ≡ eqb (length (now (bytes .entry))) (56 + 16 * linksIn (now (bytes .entry)) + 4 * sourcesIn (now (bytes .entry))) ⌝ }
+{
+    let links = word(bytes, 4) as u64;
+    let sources = word(bytes, 8) as u64;
+    bytes.len() as u64 == 56 + 16 * links + 4 * sources
+}
+
+// Whether bytes have the shape of a job.
+pub fn is_shaped(bytes: &[u8]) -> bool
+    ensures { λ r. ⌜ r ≡ shaped (now (bytes .entry)) ⌝ }
+{
+    let n = bytes.len();
+    if n < 56 {
+        return false;
+    }
+    if n > LONGEST {
+        return false;
+    }
+    has_length(bytes) & (has_offsets(bytes) & (has_limits(bytes) & (word(bytes, 52) < 2)))
+}
+
+// Fills a list with the u32 from a place on, each so many bytes behind the one before.
+pub fn read_words(bytes: &[u8], at: usize, step: usize, list: &mut [u32])
+    requires { ⌜ (at + step * length (now list) ≤ length (now bytes)) × (4 ≤ step) × (length (now bytes) ≤ 65536) ⌝ }
+    ensures { λ _. ⌜ now (list .exit) ≡ wordsAt (now (bytes .entry)) at step (length (now (list .entry))) ⌝ }
+{
+    let mut i: usize = 0;
+    while i < list.len() {
+        list[i] = word(bytes, at + step * i);
+        i += 1;
+    }
+}
+
+// Fills a list with the f64 from a place on, likewise.
+pub fn read_floats(bytes: &[u8], at: usize, step: usize, list: &mut [f64])
+    requires { ⌜ (at + step * length (now list) ≤ length (now bytes)) × (8 ≤ step) × (length (now bytes) ≤ 65536) ⌝ }
+    ensures { λ _. ⌜ now (list .exit) ≡ floatsAt (now (bytes .entry)) at step (length (now (list .entry))) ⌝ }
+{
+    let mut i: usize = 0;
+    while i < list.len() {
+        list[i] = float(bytes, at + step * i);
+        i += 1;
+    }
 }

@@ -1,0 +1,3 @@
+-- The laws that the proofs of `job_fields` share.
+pub mod Shapes
+pub mod Steps
