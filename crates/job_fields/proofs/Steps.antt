@@ -6,7 +6,6 @@ use mathlib.Core.List.{List}
 use mathlib.Core.Path.{_≡_}
 use lib.ListN.{length, getD}
 use lib.Ieee.{Float}
-use Rattle.numbers.specs.Tables.{tabulate}
 use Rattle.numbers.proofs.Tables.{length-tabulate, getD-tabulate}
 use Rattle.job_fields.specs.Fields.{wordAt, floatAt, wordsAt, floatsAt}
 

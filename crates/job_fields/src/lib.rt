@@ -1,9 +1,8 @@
 // The fields of a job's bytes.
 ghost use mathlib.Core.Path.{_≡_};
 ghost use Prim.Native.Nat.{_+_, _*_, _≤_, _<_};
-ghost use lib.ListN.{length, getD};
+ghost use lib.ListN.{length};
 ghost use Rattle.numbers.specs.Numbers.{f64};
-ghost use mathlib.Core.Bool.{_&&_};
 ghost use lib.Dec.{eqb};
 ghost use Rattle.job_fields.specs.Fields.{wordAt, floatAt, wordsAt, floatsAt};
 ghost use Rattle.job_fields.specs.Shape.{linksIn, sourcesIn, offsets, limits, shaped};

@@ -3,7 +3,7 @@ use Prim.Native.Nat.{ℕ, _+_, _≤_}
 use native.Mathlib.Nat.{le-refl, add-zero, add-assoc}
 use native.Mathlib.Omega.{arith}
 use mathlib.Core.List.{List, [], _++_, append-assoc, append-nil}
-use mathlib.Core.Path.{_≡_, refl, sym, ap, _∙_}
+use mathlib.Core.Path.{refl, sym, ap, _∙_}
 use lib.ListN.{length, take, length-append}
 use lib.Seq.{paste, length-paste, take-paste, take-length}
 use Rattle.job_text.specs.Text.{Grown}

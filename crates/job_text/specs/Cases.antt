@@ -1,6 +1,5 @@
 -- The text of a job, computed: case P1, a refusal, and the edges of numbers. Assumes nothing.
-use Prim.Native.Nat.{ℕ}
-use mathlib.Core.List.{List, [], _∷_, _++_}
+use mathlib.Core.List.{[], _∷_}
 use mathlib.Core.Path.{_≡_, refl}
 use lib.Ieee.{nan, toBits, ofBits}
 use Rattle.numbers.specs.Choice.{if_then_else_}
