@@ -1,4 +1,4 @@
--- Lists of fields that stand so many bytes apart: how long they are, what stands at each place, and that a field before the last ends before the end. Assumes nothing.
+-- Lists of fields that stand so many bytes apart: how long they are, what stands at each place, and that each lies in the bytes where the last does. Assumes nothing.
 use Prim.Native.Nat.{ℕ, suc, _+_, _*_, _≤_, _<_}
 use native.Mathlib.Nat.{mul-le-mul-left, mul-suc}
 use native.Mathlib.Omega.{arith}
@@ -9,8 +9,9 @@ use lib.Ieee.{Float}
 use Rattle.numbers.proofs.Tables.{length-tabulate, getD-tabulate}
 use Rattle.job_fields.specs.Fields.{wordAt, floatAt, wordsAt, floatsAt}
 
-pub step-inside : (step i n : ℕ) → i < n → step * i + step ≤ step * n
-step-inside step i n h = omega (arith, mul-le-mul-left {m = suc i} step h, mul-suc step i)
+-- a field so many bytes wide, where the last of n lies in the bytes
+pub field-inside : (at step i n wide long : ℕ) → i < n → at + step * n + wide ≤ long + step → at + step * i + wide ≤ long
+field-inside at step i n wide long h g = omega (arith, mul-le-mul-left {m = suc i} step h, mul-suc step i)
 
 module _ (bytes : List ℕ) (at step n : ℕ) where
   pub length-words : length (wordsAt bytes at step n) ≡ n

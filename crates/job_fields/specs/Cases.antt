@@ -10,25 +10,25 @@ use Rattle.numbers.specs.Tables.{tabulate}
 use Rattle.job_fields.specs.Fields.{number, wordAt, floatAt, wordsAt, floatsAt}
 use Rattle.job_fields.specs.Shape.{shaped}
 
--- header, settings, link, source
-unfoldable job : List ℕ
-job =
+-- P1: header, settings, link, source
+unfoldable pub chainJob : List ℕ
+chainJob =
     2 ∷ 0 ∷ 0 ∷ 0 ∷ 1 ∷ 0 ∷ 0 ∷ 0 ∷ 1 ∷ 0 ∷ 0 ∷ 0 ∷ 24 ∷ 0 ∷ 0 ∷ 0 ∷ 56 ∷ 0 ∷ 0 ∷ 0 ∷ 72 ∷ 0 ∷ 0 ∷ 0
     ∷ 0 ∷ 0 ∷ 0 ∷ 0 ∷ 0 ∷ 0 ∷ 224 ∷ 63 ∷ 0 ∷ 0 ∷ 0 ∷ 0 ∷ 0 ∷ 0 ∷ 208 ∷ 63 ∷ 0 ∷ 0 ∷ 0 ∷ 0 ∷ 0 ∷ 0 ∷ 208 ∷ 63 ∷ 10 ∷ 0 ∷ 0 ∷ 0 ∷ 0 ∷ 0 ∷ 0 ∷ 0
     ∷ 0 ∷ 0 ∷ 0 ∷ 0 ∷ 1 ∷ 0 ∷ 0 ∷ 0 ∷ 0 ∷ 0 ∷ 0 ∷ 0 ∷ 0 ∷ 0 ∷ 240 ∷ 63
     ∷ 0 ∷ 0 ∷ 0 ∷ 0 ∷ []
 
-words : wordsAt job 0 4 6 ≡ 2 ∷ 1 ∷ 1 ∷ 24 ∷ 56 ∷ 72 ∷ []
-unfolding job wordsAt wordAt number tabulate
+words : wordsAt chainJob 0 4 6 ≡ 2 ∷ 1 ∷ 1 ∷ 24 ∷ 56 ∷ 72 ∷ []
+unfolding chainJob wordsAt wordAt number tabulate
 words = refl
 
-floats : floatsAt job 24 8 3 ≡ f64 0x3fe0_0000_0000_0000 ∷ f64 0x3fd0_0000_0000_0000 ∷ f64 0x3fd0_0000_0000_0000 ∷ []
-unfolding job floatsAt floatAt wordAt number tabulate ofBits
+floats : floatsAt chainJob 24 8 3 ≡ f64 0x3fe0_0000_0000_0000 ∷ f64 0x3fd0_0000_0000_0000 ∷ f64 0x3fd0_0000_0000_0000 ∷ []
+unfolding chainJob floatsAt floatAt wordAt number tabulate ofBits
 floats = refl
 
 -- the job; a byte more, a byte less, nothing; 257 nodes; offsets 25, 57 and 73; flags 1 and 2
 shapes : map shaped
-    (job ∷ (job ++ (0 ∷ [])) ∷ take 75 job ∷ [] ∷ set (set job 0 1) 1 1 ∷ set job 12 25 ∷ set job 16 57 ∷ set job 20 73 ∷ set job 52 1 ∷ set job 52 2 ∷ [])
+    (chainJob ∷ (chainJob ++ (0 ∷ [])) ∷ take 75 chainJob ∷ [] ∷ set (set chainJob 0 1) 1 1 ∷ set chainJob 12 25 ∷ set chainJob 16 57 ∷ set chainJob 20 73 ∷ set chainJob 52 1 ∷ set chainJob 52 2 ∷ [])
     ≡ true ∷ false ∷ false ∷ false ∷ false ∷ false ∷ false ∷ false ∷ true ∷ false ∷ []
-unfolding job shaped wordAt number
+unfolding chainJob shaped wordAt number
 shapes = refl

@@ -1,4 +1,4 @@
 -- The definitions that the contracts of `job_fields` cite, and cases of them.
 pub mod Fields
 pub mod Shape
-mod Cases
+pub mod Cases

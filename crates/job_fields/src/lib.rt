@@ -91,9 +91,9 @@ pub fn is_shaped(bytes: &[u8]) -> bool
     has_length(bytes) & (has_offsets(bytes) & (has_limits(bytes) & (word(bytes, 52) < 2)))
 }
 
-// Fills a list with the u32 from a place on, each so many bytes behind the one before.
+// Fills a list with the u32 from a place on, each so many bytes behind the one before. The last lies in the bytes.
 pub fn read_words(bytes: &[u8], at: usize, step: usize, list: &mut [u32])
-    requires { ⌜ (at + step * length (now list) ≤ length (now bytes)) × (4 ≤ step) × (length (now bytes) ≤ 65536) ⌝ }
+    requires { ⌜ (at + step * length (now list) + 4 ≤ length (now bytes) + step) × (length (now bytes) ≤ 65536) ⌝ }
     ensures { λ _. ⌜ now (list .exit) ≡ wordsAt (now (bytes .entry)) at step (length (now (list .entry))) ⌝ }
 {
     let mut i: usize = 0;
@@ -105,7 +105,7 @@ pub fn read_words(bytes: &[u8], at: usize, step: usize, list: &mut [u32])
 
 // Fills a list with the f64 from a place on, likewise.
 pub fn read_floats(bytes: &[u8], at: usize, step: usize, list: &mut [f64])
-    requires { ⌜ (at + step * length (now list) ≤ length (now bytes)) × (8 ≤ step) × (length (now bytes) ≤ 65536) ⌝ }
+    requires { ⌜ (at + step * length (now list) + 8 ≤ length (now bytes) + step) × (length (now bytes) ≤ 65536) ⌝ }
     ensures { λ _. ⌜ now (list .exit) ≡ floatsAt (now (bytes .entry)) at step (length (now (list .entry))) ⌝ }
 {
     let mut i: usize = 0;

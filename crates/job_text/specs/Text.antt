@@ -2,7 +2,7 @@
 use Prim.Native.Nat.{ℕ, zero, suc, _+_, _/_}
 use mathlib.Core.List.{List, [], _∷_, _++_}
 use mathlib.Core.Path.{_≡_}
-use lib.ListN.{length, take}
+use lib.ListN.{length, take, drop}
 use lib.Dec.{ltb}
 use lib.Ieee.{Float, binary64, toBits}
 use Rattle.io.specs.Digits.{digits}
@@ -66,8 +66,9 @@ nodeLines v (e ∷ es) (r ∷ rs) = nodeLine v e r ++ nodeLines (suc v) es rs
 
 -- ---- a text in a buffer
 
--- the first `at` bytes of the text grew by a part, and the next is at r
+-- the first `at` bytes of the text grew by a part, the next is at r, and the bytes from there on are as they were
 pub record Grown (at : ℕ) (part text : List ℕ) (r : ℕ) (text′ : List ℕ) : Type 0 where
   pub next : r ≡ at + length part
   pub same-room : length text′ ≡ length text
   pub holds : take r text′ ≡ take at text ++ part
+  pub behind : drop r text′ ≡ drop r text

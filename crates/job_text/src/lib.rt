@@ -71,7 +71,7 @@ fn append_count(text: &mut [u8], at: usize, n: u64) -> usize
 // The first line of a solve that is done.
 pub fn append_done(text: &mut [u8], at: usize, pushes: u64, visited: u64, norm: f64) -> usize
     requires { ⌜ (at + 64 ≤ length (now text)) × (length (now text) ≤ 65536) ⌝ }
-    ensures { λ r. ⌜ Grown at (doneLine pushes visited norm) (now (text .entry)) r (now (text .exit)) ⌝ }
+    ensures { λ r. ⌜ Grown at (doneLine pushes visited norm) (now (text .entry)) r (now (text .exit)) × (r ≤ at + 64) ⌝ }
 {
     let word = append(text, at, b"done ");
     let pushed = append_count(text, word, pushes);

@@ -7,7 +7,7 @@ use lib.ListN.{length, length-set}
 use lib.Ieee.{nan}
 use Rattle.numbers.proofs.Over.{over, over-none, over-more, over-whole}
 use Rattle.job_fields.specs.Fields.{floatsAt}
-use Rattle.job_fields.proofs.Steps.{step-inside, length-floats, getD-floats}
+use Rattle.job_fields.proofs.Steps.{field-inside, length-floats, getD-floats}
 use borrow.Author.Needs.{needs}
 use Rattle.job_fields.proofs.read_floats.Statement.{statement}
 use Rattle.job_fields.proofs.read_floats.Tie as tie
@@ -25,18 +25,17 @@ loop-holds c = (zero-le, refl, over-none _ _)
 mul-float : tie.Need-mul-float Inv-loop μ-loop
 mul-float c =
     let a = c .before .before .before .before .args in
-    omega (arith, step-inside (a .step) (c .before .loop .i) (length (now (a .list))) (omega arith), c .before .before .before .before .pre .0, c .before .before .before .before .pre .2)
+    omega (arith, field-inside (a .at) (a .step) (c .before .loop .i) (length (now (a .list))) 8 (length (now (a .bytes))) (omega arith) (c .before .before .before .before .pre .0), c .before .before .before .before .pre .1)
 
 add-float : tie.Need-add-float Inv-loop μ-loop
 add-float c =
     let a = c .before .before .before .before .args in
-    omega (arith, step-inside (a .step) (c .before .loop .i) (length (now (a .list))) (omega arith), c .before .before .before .before .pre .0, c .before .before .before .before .pre .2)
+    omega (arith, field-inside (a .at) (a .step) (c .before .loop .i) (length (now (a .list))) 8 (length (now (a .bytes))) (omega arith) (c .before .before .before .before .pre .0), c .before .before .before .before .pre .1)
 
 float-requires : tie.Need-float-requires Inv-loop μ-loop
 float-requires c κs =
     let a = c .before .before .before .before .args in
-    let q = c .before .before .before .before .pre in
-    (omega (arith, step-inside (a .step) (c .before .loop .i) (length (now (a .list))) (omega arith), q .0, q .1), q .2)
+    (field-inside (a .at) (a .step) (c .before .loop .i) (length (now (a .list))) 8 (length (now (a .bytes))) (omega arith) (c .before .before .before .before .pre .0), c .before .before .before .before .pre .1)
 
 mul-list : tie.Need-mul-list Inv-loop μ-loop
 mul-list c = search needs

@@ -6,7 +6,7 @@ use denote.Ref.{now}
 use lib.ListN.{length, length-set}
 use Rattle.numbers.proofs.Over.{over, over-none, over-more, over-whole}
 use Rattle.job_fields.specs.Fields.{wordsAt}
-use Rattle.job_fields.proofs.Steps.{step-inside, length-words, getD-words}
+use Rattle.job_fields.proofs.Steps.{field-inside, length-words, getD-words}
 use borrow.Author.Needs.{needs}
 use Rattle.job_fields.proofs.read_words.Statement.{statement}
 use Rattle.job_fields.proofs.read_words.Tie as tie
@@ -24,18 +24,17 @@ loop-holds c = (zero-le, refl, over-none _ _)
 mul-word : tie.Need-mul-word Inv-loop μ-loop
 mul-word c =
     let a = c .before .before .before .before .args in
-    omega (arith, step-inside (a .step) (c .before .loop .i) (length (now (a .list))) (omega arith), c .before .before .before .before .pre .0, c .before .before .before .before .pre .2)
+    omega (arith, field-inside (a .at) (a .step) (c .before .loop .i) (length (now (a .list))) 4 (length (now (a .bytes))) (omega arith) (c .before .before .before .before .pre .0), c .before .before .before .before .pre .1)
 
 add-word : tie.Need-add-word Inv-loop μ-loop
 add-word c =
     let a = c .before .before .before .before .args in
-    omega (arith, step-inside (a .step) (c .before .loop .i) (length (now (a .list))) (omega arith), c .before .before .before .before .pre .0, c .before .before .before .before .pre .2)
+    omega (arith, field-inside (a .at) (a .step) (c .before .loop .i) (length (now (a .list))) 4 (length (now (a .bytes))) (omega arith) (c .before .before .before .before .pre .0), c .before .before .before .before .pre .1)
 
 word-requires : tie.Need-word-requires Inv-loop μ-loop
 word-requires c κs =
     let a = c .before .before .before .before .args in
-    let q = c .before .before .before .before .pre in
-    (omega (arith, step-inside (a .step) (c .before .loop .i) (length (now (a .list))) (omega arith), q .0, q .1), q .2)
+    (field-inside (a .at) (a .step) (c .before .loop .i) (length (now (a .list))) 4 (length (now (a .bytes))) (omega arith) (c .before .before .before .before .pre .0), c .before .before .before .before .pre .1)
 
 mul-list : tie.Need-mul-list Inv-loop μ-loop
 mul-list c = search needs

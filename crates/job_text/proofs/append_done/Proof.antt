@@ -51,9 +51,14 @@ returns : tie.Need-returns
 unfolding doneLine
 returns c =
     let a = c .before .before .before .before .before .before .before .before .before .before .before .before .before .before .before .before .before .before .before .before .before .before .before .args in
-    rw (append-assoc (decimal (a .pushes)) space _, append-assoc (decimal (a .visited)) space _)
-    at (grown-then (c .before .before .before .before .before .before .before .before .before .before .before .before .before .before .before .before .before .before .before .append .ensures)
-    (grown-then (c .before .before .before .before .before .before .before .before .before .before .before .before .before .before .before .append-count .ensures) (grown-then (c .before .before .before .before .before .before .before .before .before .before .before .append-count2 .ensures) (grown-then (c .before .before .before .before .before .before .before .append-bits .ensures) (c .before .before .append2 .ensures)))))
+    let word = c .before .before .before .before .before .before .before .before .before .before .before .before .before .before .before .before .before .before .before .append .ensures in
+    let pushed = c .before .before .before .before .before .before .before .before .before .before .before .before .before .before .before .append-count .ensures in
+    let seen = c .before .before .before .before .before .before .before .before .before .before .before .append-count2 .ensures in
+    let norm = c .before .before .before .before .before .before .before .append-bits .ensures in
+    let end = c .before .before .append2 .ensures in (
+      rw (append-assoc (decimal (a .pushes)) space _, append-assoc (decimal (a .visited)) space _) at (grown-then word (grown-then pushed (grown-then seen (grown-then norm end)))),
+      omega (arith, word .next, pushed .next, seen .next, norm .next, end .next, length-count (a .pushes), length-count (a .visited), length-bits (a .norm)),
+    )
 
 pub append-done-spec : {M : Type 1} → statement M
 append-done-spec =

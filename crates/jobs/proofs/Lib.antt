@@ -1,0 +1,3 @@
+-- The laws that the proofs of `jobs` share, and the theorems on a job's text.
+mod Texts
+pub mod One

@@ -1,0 +1,119 @@
+-- The text of a solve's answer is that of the job: the lent buffers have the lengths that are stated, so that the solve's first number is the job's.
+-- Assumes nothing.
+use Prim.Native.Nat.{ℕ, zero, suc, _+_, _*_}
+use mathlib.Core.Bool.{Bool, true, false, not}
+use mathlib.Core.List.{List, [], _∷_, _++_}
+use mathlib.Core.Path.{_≡_, refl, sym, ap, subst, _∙_}
+use borrow.Author.Tests.{eq-eqb}
+use native.Mathlib.Omega.{arith}
+use lib.Dec.{eqb}
+use lib.ListN.{length}
+use lib.Ieee.{Float}
+use Rattle.numbers.specs.Numbers.{+0}
+use Rattle.refusals.specs.Refusals.{_or_, _when_, unlike, nodes, links, listed, lengths, weights, settings}
+use Rattle.refusals.specs.Calls.{Left, left, call}
+use Rattle.refusals.specs.declared.Settings.{Settings}
+use Rattle.refusals.proofs.Laws.{Alike}
+use Rattle.rules.specs.Rules.{State}
+use Rattle.rules.specs.Answers.{visitedCount}
+use Rattle.calls.specs.declared.Solved.{Solved}
+use Rattle.calls.specs.Lent.{SolveLent, LinksLent, solveLengths, solving}
+use Rattle.calls.specs.Outcomes.{Given, givenLinks, ends, solvedWith}
+use Rattle.calls.proofs.After.{done-estimate, done-residual, links-after}
+use Rattle.forward_push.specs.Outcomes.{solveMultiSource}
+use Rattle.job_fields.specs.Fields.{wordsAt, floatsAt}
+use Rattle.job_fields.specs.Shape.{nodesIn, linksIn, sourcesIn, shaped}
+use Rattle.job_text.specs.Text.{refusedLine, doneLine, nodeLines, Grown}
+use Rattle.jobs.specs.Jobs.{settingsIn, job, jobIn, refusal, end, told}
+use Rattle.jobs.specs.Promises.{ListsLong, RowsLong, SolveLong, Writes, writes}
+
+-- the text of an answer and two vectors
+abbrev pub answered : Solved → List Float → List Float → List ℕ
+answered r estimate residual = told (r .refusal) (doneLine (r .«push_count») (r .«nodes_visited») (r .«residual_norm») ++ nodeLines 0 estimate residual)
+
+-- a refusal
+pub told-refused : (number : ℕ) (done : List ℕ) {text text′ : List ℕ} {r : ℕ} → (number ≡ 0 → ⊥) → Grown 0 (refusedLine number) text r text′ → Grown 0 (told number done) text r text′
+unfolding told
+told-refused zero done h g = absurd (h refl)
+told-refused (suc k) done h g = g
+
+-- none
+pub told-done : (number : ℕ) (done : List ℕ) {text text′ : List ℕ} {r : ℕ} → number ≡ 0 → Grown 0 done text r text′ → Grown 0 (told number done) text r text′
+unfolding told
+told-done zero done h g = g
+told-done (suc k) done h g = absurd (omega arith)
+
+-- lengths that are as stated fail no test
+alike-lengths : (ps : List (ℕ × ℕ)) → Alike ps → unlike false ps ≡ false
+unfolding unlike
+alike-lengths [] h = refl
+alike-lengths (p ∷ ps) h = rw (eq-eqb (p .0) (p .1) (h .0)) (alike-lengths ps (h .1))
+
+-- the answer's text, by the solve's first number and the state that it ends in
+solved-answered : {B : Type 0} (number : ℕ) (g : Given State B) (s : State) (norm : Float) (estimateOf residualOf : B → List Float)
+    → estimateOf (g .after s) ≡ s .estimate → residualOf (g .after s) ≡ s .residual → {r : Solved} {b : B} → left r b ≡ solvedWith number g s norm
+    → answered r (estimateOf b) (residualOf b) ≡ told number (doneLine (s .pushes) (visitedCount s) norm ++ nodeLines 0 (s .estimate) (s .residual))
+unfolding solvedWith call told
+solved-answered {B} zero g s norm estimateOf residualOf he hr e =
+    ap (λ (x : Left Solved B). answered (x .answer) (estimateOf (x .lent)) (residualOf (x .lent))) e
+    ∙ ap (λ (v : List Float). doneLine (s .pushes) (visitedCount s) norm ++ nodeLines 0 v (residualOf (g .after s))) he
+    ∙ ap (λ (v : List Float). doneLine (s .pushes) (visitedCount s) norm ++ nodeLines 0 (s .estimate) v) hr
+solved-answered {B} (suc k) g s norm estimateOf residualOf he hr e = ap (λ (x : Left Solved B). answered (x .answer) (estimateOf (x .lent)) (residualOf (x .lent))) e
+
+module _ (n : ℕ) (from to : List ℕ) (weight : List Float) (sources : List ℕ) (s : Settings) where
+  -- all lengths are as stated
+  all-alike : (b : LinksLent SolveLent) → ListsLong (length from) to weight → RowsLong n (length from) (b .starts) (b .columns) (b .weights) → SolveLong n (b .rest)
+      → Alike ((length to, length from) ∷ (length weight, length from) ∷ (length (b .starts), n + 1) ∷ (length (b .columns), length from) ∷ (length (b .weights), length from) ∷ solveLengths n (b .rest))
+  all-alike b l r v =
+      (l .to-long, (l .weight-long, (r .starts-long, (r .columns-long, (r .weights-long, (v .estimate-long, (v .residual-long, (v .degrees-long, (v .priorities-long, (v .nodes-long, (v .queued-long, (v .visited-long, tt))))))))))))
+
+  -- the solve's first number is the job's
+  number-is : (b : LinksLent SolveLent) → ListsLong (length from) to weight → RowsLong n (length from) (b .starts) (b .columns) (b .weights) → SolveLong n (b .rest)
+      → givenLinks solving n from to weight b .tests (length sources) or settings s ≡ refusal (job n from to weight sources s)
+  unfolding givenLinks refusal lengths unlike
+  number-is b l r v =
+      ap (λ (x : ℕ). ((nodes n or links (length from) or listed (length sources) or x) or weights weight) or settings s) (ap (λ (x : Bool). 3 when x) (alike-lengths ((length to, length from) ∷ (length weight, length from) ∷ (length (b .starts), n + 1) ∷ (length (b .columns), length from) ∷ (length (b .weights), length from) ∷ solveLengths n (b .rest)) (all-alike b l r v)))
+
+  -- what is written of the solve's answer is the job's text
+  pub solve-writes : (b : LinksLent SolveLent) → ListsLong (length from) to weight → RowsLong n (length from) (b .starts) (b .columns) (b .weights) → SolveLong n (b .rest)
+      → {r : Solved} {b′ : LinksLent SolveLent} → solveMultiSource (givenLinks solving n from to weight b) sources s (left r b′)
+      → {text text′ : List ℕ} {k : ℕ} → Grown 0 (answered r (b′ .rest .estimate) (b′ .rest .residual)) text k text′ → writes (job n from to weight sources s) text k text′
+  unfolding end ends givenLinks
+  solve-writes b l r v solves grown =
+      let j = job n from to weight sources s in
+      record {
+        part = _;
+        printed =
+            record {
+              norm = solves .norm;
+              is-norm = λ h. solves .is-norm (number-is b l r v ∙ h);
+              is-text =
+                  solved-answered (givenLinks solving n from to weight b .tests (length sources) or settings s) (givenLinks solving n from to weight b) (end j) (solves .norm) (λ x. x .rest .estimate) (λ x. x .rest .residual)
+                  (links-after solving (λ (x : SolveLent). x .estimate) (end j) (end j .estimate) (λ n m. done-estimate n (end j .estimate) (end j .residual)) n from to weight b)
+                  (links-after solving (λ (x : SolveLent). x .residual) (end j) (end j .residual) (λ n m. done-residual n (end j .estimate) (end j .residual)) n from to weight b)
+                  (solves .leaves)
+                  ∙ ap (λ (x : ℕ). told x (doneLine (end j .pushes) (visitedCount (end j)) (solves .norm) ++ nodeLines 0 (end j .estimate) (end j .residual))) (number-is b l r v);
+            };
+        grown = grown;
+      }
+
+-- ---- by the bytes
+
+-- lists that are read from bytes, each with its own length, are the job's
+pub job-read : (bytes : List ℕ) {n m₁ m₂ m₃ m₄ k : ℕ} {from to sources : List ℕ} {weight : List Float} {s : Settings}
+    → n ≡ nodesIn bytes → from ≡ wordsAt bytes 56 16 m₁ → to ≡ wordsAt bytes 60 16 m₂ → weight ≡ floatsAt bytes 64 16 m₃ → sources ≡ wordsAt bytes (56 + 16 * m₄) 4 k → s ≡ settingsIn bytes
+    → m₁ ≡ linksIn bytes → m₂ ≡ m₁ → m₃ ≡ m₁ → m₄ ≡ m₁ → k ≡ sourcesIn bytes
+    → job n from to weight sources s ≡ jobIn bytes
+unfolding jobIn
+job-read bytes hn hf ht hw hs h l₁ l₂ l₃ l₄ lk = rw (hn, hf, ht, hw, hs, h, l₄, l₃, l₂, l₁, lk) refl
+
+module _ (bytes : List ℕ) {text text′ : List ℕ} {r : ℕ} where
+  -- bytes of another shape
+  pub misshapen-writes : shaped bytes ≡ false → Grown 0 (refusedLine 8) text r text′ → Writes (8 when not (shaped bytes) or refusal (jobIn bytes)) (jobIn bytes) text r text′
+  unfolding _when_ _or_ told
+  misshapen-writes h g = rw h (record { part = refusedLine 8; printed = record { norm = +0; is-norm = λ e. absurd (omega arith); is-text = refl }; grown = g })
+
+  -- and of a job's
+  pub shaped-writes : shaped bytes ≡ true → writes (jobIn bytes) text r text′ → Writes (8 when not (shaped bytes) or refusal (jobIn bytes)) (jobIn bytes) text r text′
+  unfolding _when_ _or_
+  shaped-writes h w = rw h w

@@ -1,0 +1,40 @@
+-- Jobs computed from their bytes to their text: case P1, and a refusal of each number that a job can give. Assumes nothing.
+use Prim.Native.Nat.{ℕ, _^_}
+use mathlib.Core.List.{List, [], _∷_, _++_}
+use mathlib.Core.Path.{_≡_, refl}
+use lib.Dec.{lit<, lit≤}
+use lib.ListN.{set}
+use lib.Ieee.{odd, ofBits, toBits, ofInt, add, sub, mul, div, lt, le}
+use Rattle.numbers.specs.Numbers.{f64, +0}
+use Rattle.numbers.specs.Choice.{if_then_else_}
+use Rattle.numbers.specs.Tables.{tabulate}
+use Rattle.norm.specs.Norm.{addSquares}
+use Rattle.refusals.specs.Refusals.{_or_, _when_, any, unlike, nodes, links, listed, lengths, weights, alphas, settings}
+use Rattle.marks.specs.Marks.{howMany}
+use Rattle.graph.specs.Rows.{kept, gives, rowOf, rowsOf, linksOf, sumFrom, degree}
+use Rattle.queue.specs.Waiting.{taken, answer, offered, better, bestFrom, next, usual, adapted}
+use Rattle.rules.specs.Ways.{effective, transition, shareOf, wayOf, over, degreeOf}
+use Rattle.rules.specs.Rules.{each, blank, queued, gain, absorb, counted, offer, pass, handOut, push, stops, due, skips, visit, turn, onward, run}
+use Rattle.rules.specs.Rules.{inside, watchable, begun, start, enough, solve}
+use Rattle.rules.specs.Answers.{visitedCount}
+use Rattle.job_fields.specs.Fields.{number, wordAt, floatAt, wordsAt, floatsAt}
+use Rattle.job_fields.specs.Shape.{shaped}
+use Rattle.job_fields.specs.Cases.{chainJob}
+use Rattle.job_text.specs.Text.{places, decimal, bits, refusedLine, doneLine, nodeLine, nodeLines}
+use Rattle.jobs.specs.Jobs.{settingsIn, jobIn, refusal, end, told, prints}
+
+-- P1's text
+unfoldable chainText : List ℕ
+chainText =
+    doneLine 3 2 (f64 0x3fc0_0000_0000_0000)
+    ++ nodeLines 0 (f64 0x3fe0_0000_0000_0000 ∷ f64 0x3fd8_0000_0000_0000 ∷ []) (+0 ∷ f64 0x3fc0_0000_0000_0000 ∷ [])
+
+-- the chain
+chain-prints : prints chainJob chainText
+unfolding chainText if_then_else_ tabulate howMany kept gives rowOf rowsOf linksOf sumFrom degree taken answer offered better bestFrom next usual adapted effective transition shareOf wayOf over degreeOf each blank queued gain absorb counted offer pass handOut push stops due skips visit turn onward run inside watchable begun start enough solve any unlike visitedCount addSquares ofBits toBits ofInt add sub mul div lt le odd chainJob shaped number wordAt floatAt wordsAt floatsAt settingsIn jobIn refusal end told _or_ _when_ nodes links listed lengths weights alphas settings places decimal bits refusedLine doneLine nodeLine nodeLines
+chain-prints =
+    record {
+      norm = f64 0x3fc0_0000_0000_0000;
+      is-norm = λ _. record { q = 2 ^ 52; k = 1019; is = refl; near = record { from = lit≤ tt; to = lit< tt; over = lit< tt; under = lit< tt } };
+      is-text = refl;
+    }
