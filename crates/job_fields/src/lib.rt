@@ -2,7 +2,6 @@
 ghost use mathlib.Core.Path.{_≡_};
 ghost use Prim.Native.Nat.{_+_, _*_, _≤_, _<_};
 ghost use lib.ListN.{length};
-ghost use Rattle.numbers.specs.Numbers.{f64};
 ghost use lib.Dec.{eqb};
 ghost use Rattle.job_fields.specs.Fields.{wordAt, floatAt, wordsAt, floatsAt};
 ghost use Rattle.job_fields.specs.Shape.{linksIn, sourcesIn, offsets, limits, shaped};
@@ -26,16 +25,6 @@ pub fn word(bytes: &[u8], at: usize) -> u32
     joined(bytes[at], second)
 }
 
-// The float of a bit pattern, and the NaN for each pattern of a NaN.
-fn float_of(bits: u64) -> f64
-    ensures { λ r. ⌜ r ≡ f64 bits ⌝ }
-{
-    if bits % 0x8000_0000_0000_0000 <= 0x7ff0_0000_0000_0000 {
-        return f64::from_bits(bits);
-    }
-    0.0 / 0.0
-}
-
 // The f64 at a place.
 pub fn float(bytes: &[u8], at: usize) -> f64
     requires { ⌜ (at + 8 ≤ length (now bytes)) × (length (now bytes) ≤ 65536) ⌝ }
@@ -43,7 +32,7 @@ pub fn float(bytes: &[u8], at: usize) -> f64
 {
     let low = word(bytes, at) as u64;
     let high = word(bytes, at + 4) as u64;
-    float_of(low + 0x1_0000_0000 * high)
+    numbers::float_of(low + 0x1_0000_0000 * high)
 }
 
 // The greatest length of a job: 1,024 links and 16 sources.

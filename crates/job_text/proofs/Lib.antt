@@ -1,4 +1,4 @@
 -- The laws that the proofs of `job_text` share.
 pub mod Growing
 mod Numerals
-mod NodeLines
+pub mod NodeLines

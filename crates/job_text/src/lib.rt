@@ -1,9 +1,10 @@
 // The text that a job prints, put piece by piece into a lent buffer. Each function asks that the buffer has room.
 ghost use mathlib.Core.Path.{_≡_};
-ghost use Prim.Native.Nat.{_+_, _*_, _≤_};
+ghost use Prim.Native.Nat.{_+_, _*_, _≤_, _<_};
 ghost use mathlib.Core.List.{_++_};
 ghost use lib.ListN.{length};
 ghost use lib.Ieee.{binary64, toBits};
+ghost use Rattle.io.specs.Digits.{glyph, digits};
 ghost use Rattle.job_text.specs.Text.{decimal, bits, space, refusedLine, doneLine, nodeLine, nodeLines, Grown};
 
 // Puts a part behind the first `at` bytes, and answers where the next one goes.
@@ -39,14 +40,35 @@ fn bits_of(x: f64) -> u64
     f64::to_bits(x)
 }
 
+// The ASCII code of a hex digit.
+fn hex_digit(d: u64) -> u8
+    requires { ⌜ d < 16 ⌝ }
+    ensures { λ r. ⌜ r ≡ glyph d ⌝ }
+{
+    if d < 10 { 48 + d as u8 } else { 87 + d as u8 }
+}
+
+// As many of the last hex digits of a number as there is room for, the last at the end.
+fn spell(n: u64, room: &mut [u8])
+    ensures { λ _. ⌜ now (room .exit) ≡ digits 16 (length (now (room .entry))) n ⌝ }
+{
+    let mut i = room.len();
+    let mut rest = n;
+    while i > 0 {
+        i -= 1;
+        room[i] = hex_digit(rest % 16);
+        rest /= 16;
+    }
+}
+
 // The bits of a float, as hex digits.
 pub fn append_bits(text: &mut [u8], at: usize, x: f64) -> usize
     requires { ⌜ (at + 16 ≤ length (now text)) × (length (now text) ≤ 65536) ⌝ }
     ensures { λ r. ⌜ Grown at (bits x) (now (text .entry)) r (now (text .exit)) ⌝ }
 {
     let mut digits = [0u8; 16];
-    let k = io::hex(bits_of(x), 16, &mut digits);
-    append(text, at, &digits[..k])
+    spell(bits_of(x), &mut digits);
+    append(text, at, &digits)
 }
 
 // The line of a refusal.

@@ -1,9 +1,20 @@
-// What the crates above share: notation and laws of numbers and lists, and lists that are cleared.
+// What the crates above share: notation and laws of numbers and lists, floats by their bits, and lists that are
+// cleared.
 ghost use mathlib.Core.Path.{_≡_};
 ghost use mathlib.Core.List.{_++_};
 ghost use Prim.Native.Nat.{_-_, _≤_};
 ghost use lib.ListN.{length, take, replicate};
-ghost use Rattle.numbers.specs.Numbers.{+0};
+ghost use Rattle.numbers.specs.Numbers.{f64, +0};
+
+// The float of a bit pattern, and the NaN for each pattern of a NaN.
+pub fn float_of(bits: u64) -> f64
+    ensures { λ r. ⌜ r ≡ f64 bits ⌝ }
+{
+    if bits % 0x8000_0000_0000_0000 <= 0x7ff0_0000_0000_0000 {
+        return f64::from_bits(bits);
+    }
+    0.0 / 0.0
+}
 
 // The numbers from `start` on become 0.
 pub fn clear_from(a: &mut [u32], start: usize)

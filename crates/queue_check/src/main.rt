@@ -52,7 +52,7 @@ fn read_operation(bytes: &[u8], at: usize) -> Operation
     let what = recording::number(bytes, at, 2);
     let node = (recording::number(bytes, at + 2, 2) % 0x1_0000) as u32;
     let size = (recording::number(bytes, at + 4, 4) % 0x1_0000_0000) as u32;
-    let number = recording::float(recording::number(bytes, at + 8, 8));
+    let number = numbers::float_of(recording::number(bytes, at + 8, 8));
     Operation {
         what,
         node,

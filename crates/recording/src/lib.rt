@@ -1,5 +1,5 @@
-// What the programs share that replay a recording of the Rust: numbers and floats of its bytes, which
-// are little-endian.
+// What the programs share that replay a recording of the Rust: the numbers in its bytes, which are
+// little-endian.
 ghost use Prim.Native.Nat.{_+_, _≤_};
 ghost use lib.ListN.{length};
 
@@ -18,12 +18,4 @@ pub fn number(bytes: &[u8], at: usize, width: usize) -> u64
         n = (n << 8) | wide(bytes[at + k]);
     }
     n
-}
-
-// The float of a bit pattern, and a NaN for each of the patterns of a NaN.
-pub fn float(bits: u64) -> f64 {
-    if bits % 0x8000_0000_0000_0000 <= 0x7ff0_0000_0000_0000 {
-        return f64::from_bits(bits);
-    }
-    0.0 / 0.0
 }

@@ -41,7 +41,7 @@ pub fn whole(bytes: &[u8; SIZE], at: usize) -> u32
 pub fn real(bytes: &[u8; SIZE], at: usize) -> f64
     requires { ⌜ at + 8 ≤ 816 ⌝ }
 {
-    recording::float(recording::number(bytes, at, 8))
+    numbers::float_of(recording::number(bytes, at, 8))
 }
 
 // The length at `at`, at most the room.

@@ -1,4 +1,4 @@
--- `job_fields::float_of` meets its contract: a pattern is a NaN's where, less its sign, it is above that of infinity (`nanBits-above`). Assumes nothing.
+-- `numbers::float_of` meets its contract: a pattern is a NaN's where, less its sign, it is above that of infinity (`nanBits-above`). Assumes nothing.
 use Prim.Native.Nat.{ℕ, _%_, _≤_, _<_}
 use mathlib.Core.Bool.{true, false, not, false≢true}
 use mathlib.Core.Path.{_≡_, refl, sym, _∙_}
@@ -7,8 +7,8 @@ use borrow.Author.Needs.{needs}
 use lib.Dec.{T}
 use lib.Ieee.{Float, nan, inf, fin, binary64, ofBits, nanBits, isNan, div}
 use lib.Ieee.Bits.{nanBits-is, nanBits-above}
-use Rattle.job_fields.proofs.float_of.Statement.{statement}
-use Rattle.job_fields.proofs.float_of.Tie as tie
+use Rattle.numbers.proofs.float_of.Statement.{statement}
+use Rattle.numbers.proofs.float_of.Tie as tie
 
 no-nan : (b : ℕ) → b % 0x8000_0000_0000_0000 ≤ 0x7ff0_0000_0000_0000 → T (not (nanBits binary64 b))
 no-nan b h = rw (nanBits-above binary64 b, le-ltb 0x7ff0_0000_0000_0000 (b % 0x8000_0000_0000_0000) h) tt
