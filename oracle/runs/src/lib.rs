@@ -1,7 +1,10 @@
 //! What the programs `compare`, `measure` and `record` share.
 pub mod calls;
 pub mod comparison;
+// The wrapper's own declarations: what it calls is what is compared.
+#[path = "../../../bindings/rust/src/entries/mod.rs"]
 pub mod entries;
+pub mod fenced;
 pub mod lent;
 pub mod patterns;
 pub mod random;
