@@ -21,6 +21,7 @@ fn main() {
             missing.join(", ")
         ));
     }
+    println!("cargo:rerun-if-changed={}", folder.display());
     println!("cargo:rustc-link-search=native={}", folder.display());
     for name in &names {
         println!("cargo:rerun-if-changed={}", archive(name).display());
