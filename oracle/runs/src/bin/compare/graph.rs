@@ -43,13 +43,14 @@ fn random_lists(asked: &Asked, comparison: &mut Comparison, random: &mut Random)
         (MOST_NODES, 100_000, asked.size(10, 300)),
         (MOST_NODES, MOST_LINKS, asked.size(3, 60)),
     ];
-    for (nodes, links, count) in classes {
+    for (nodes, links, count) in classes.into_iter().filter(|class| asked.draws(class.0)) {
         // One in three is of exactly the size.
         let inputs = (0..count).map(|number| lists::random(random, nodes, links, number % 3 == 0));
         let name = format!("graph, random lists of up to {nodes} nodes and {links} links");
         comparison.kind(&name, inputs, of_links, smaller);
     }
-    for nodes in [1, 2, 3, 10, 100, 1_000, MOST_NODES - 1, MOST_NODES] {
+    let sizes = [1, 2, 3, 10, 100, 1_000, MOST_NODES - 1, MOST_NODES];
+    for nodes in sizes.into_iter().filter(|&nodes| asked.draws(nodes)) {
         let turns = if nodes > 1_000 { asked.size(1, 5) } else { asked.size(5, 50) };
         let inputs = (0..turns).flat_map(|_| lists::planned(random, nodes));
         comparison.kind(&format!("graph, planned lists of {nodes} nodes"), inputs, of_links, smaller);
@@ -62,7 +63,7 @@ fn random_rows(asked: &Asked, comparison: &mut Comparison, random: &mut Random) 
         (1_000, 10_000, asked.size(100, 3_000)),
         (MOST_NODES, MOST_LINKS, asked.size(3, 60)),
     ];
-    for (nodes, links, count) in classes {
+    for (nodes, links, count) in classes.into_iter().filter(|class| asked.draws(class.0)) {
         let inputs = (0..count).map(|number| lists::rows(random, nodes, links, number % 3 == 0));
         let name = format!("graph, random rows of up to {nodes} nodes and {links} links");
         comparison.kind(&name, inputs, of_rows, smaller);
@@ -77,7 +78,7 @@ fn refusals(asked: &Asked, comparison: &mut Comparison, random: &mut Random) {
         kind("limits of weight, in each place", &mut limits::weights(entry).into_iter());
         kind("each length, and each two", &mut limits::lengths(entry).into_iter());
         kind("each damage", &mut damaged::singles(entry).into_iter());
-        kind("each two damages", &mut damaged::pairs(entry, true));
+        kind("each two damages", &mut damaged::pairs(entry, !asked.short));
         let all = damaged::damages(entry);
         let several = (0..asked.size(2_000, 50_000)).map(|_| damaged::several(random, entry, &all));
         kind("several damages", &mut several.into_iter());

@@ -8,7 +8,7 @@
 //! program must then fail, and it does so only where each is found.
 //!
 //! `behind` puts every list that is lent right before memory that nothing may touch, and `before` right behind such memory, so
-//! that a word read or written outside ends the program. `short` takes a hundredth of the inputs that the gate draws.
+//! that a word read or written outside ends the program. `short` draws a hundredth of the gate's inputs, and no large ones.
 //! `overrun NAME` does what must end it: see `overrun`.
 mod calls;
 mod graph;
@@ -44,6 +44,11 @@ impl Asked {
             return gate.div_ceil(100);
         }
         if self.full { full } else { gate }
+    }
+
+    /// Whether graphs of so many nodes are drawn. A short run has large ones at the limits of size, and draws none.
+    pub fn draws(&self, nodes: u32) -> bool {
+        !self.short || nodes <= 1_000
     }
 
     fn asks_for(&self, part: &str) -> bool {

@@ -102,7 +102,7 @@ impl Solves<'_> {
             (3, 1, self.size(600, 600)),
             (2, 2, self.size(120, 600)),
             (3, 2, self.size(6, 600)),
-            (2, 3, self.asked.size(u64::from(self.solver == Solver::Forward), 60)),
+            (2, 3, self.asked.size(u64::from(self.solver == Solver::Forward && !self.asked.short), 60)),
             (3, 3, self.asked.size(0, 4)),
         ];
         for (nodes, links, each) in classes.into_iter().filter(|class| class.2 > 0) {
@@ -141,7 +141,7 @@ impl Solves<'_> {
             (MOST_NODES, 100_000, self.size(5, 150)),
             (MOST_NODES, MOST_LINKS, self.size(1, 20)),
         ];
-        for (nodes, links, count) in classes {
+        for (nodes, links, count) in classes.into_iter().filter(|class| self.asked.draws(class.0)) {
             // One in three is of exactly the size.
             let inputs = (0..count).map(|number| {
                 let graph = lists::random(random, nodes, links, number % 3 == 0);
@@ -156,7 +156,8 @@ impl Solves<'_> {
             });
             self.kind(comparison, &format!("random rows of up to {nodes} nodes and {links} links"), inputs);
         }
-        for nodes in [1, 2, 3, 10, 63, 64, 65, 100, 1_000, MOST_NODES - 1, MOST_NODES] {
+        let sizes = [1, 2, 3, 10, 63, 64, 65, 100, 1_000, MOST_NODES - 1, MOST_NODES];
+        for nodes in sizes.into_iter().filter(|&nodes| self.asked.draws(nodes)) {
             let turns = if nodes > 1_000 { self.size(1, 4) } else { self.size(5, 100) };
             let inputs = (0..turns).flat_map(|_| {
                 // There are four of each plan: of the largest the gate takes one.
@@ -171,7 +172,9 @@ impl Solves<'_> {
     fn adapting(&self, comparison: &mut Comparison, random: &mut Random) {
         let layout = Layout(self.solver);
         let mut kind = |name: &str, inputs: Vec<Call>| self.kind(comparison, name, inputs.into_iter());
-        kind("thousands of pushes, threshold falling", layout.thousands(random, self.size(500, 10_000).max(30)));
+        // One of them must show a threshold that falls, which few do: a short run has as many.
+        let thousands = if self.asked.short { 500 } else { self.size(500, 10_000) };
+        kind("thousands of pushes, threshold falling", layout.thousands(random, thousands));
         kind("queues above 10,000 that stay", layout.stars(random, self.size(8, 200)));
         kind("queues above 10,000 and then below 100", layout.waves(random, self.size(12, 400)));
         // A queue of a certain size takes a solve from many nodes.
@@ -185,7 +188,7 @@ impl Solves<'_> {
         let inputs = watched::stopping(random, self.solver, self.size(2_000, 40_000).max(100));
         self.kind(comparison, "watched nodes reached early, late and never", inputs.into_iter());
         let sizes = [1, 3, 1_000, MOST_NODES];
-        let inputs = sizes.iter().flat_map(|&nodes| {
+        let inputs = sizes.into_iter().filter(|&nodes| self.asked.draws(nodes)).flat_map(|nodes| {
             let turns = 0..self.size(2, 20);
             turns.flat_map(|_| self.with_many(random, nodes)).collect::<Vec<_>>()
         });
@@ -224,7 +227,7 @@ impl Solves<'_> {
             (MOST_NODES, 262_144, self.size(1, 8)),
             (MOST_NODES, MOST_LINKS, self.size(1, 4)),
         ];
-        for (nodes, links, count) in classes {
+        for (nodes, links, count) in classes.into_iter().filter(|class| self.asked.draws(class.0)) {
             let inputs = (0..count).map(|_| {
                 let call = lists::random(random, nodes, links, true).solving(self.solver.first_question());
                 let drawn = wishes::drawn(random, &call);
