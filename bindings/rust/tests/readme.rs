@@ -1,5 +1,4 @@
-//! The README's example is the one in examples/, which is run and held to its output: where cargo leaves out the examples in
-//! documentation, as for another processor, it is tested all the same.
+//! The README's example is the one in examples/, which the gate runs and holds to its output.
 
 #[test]
 fn the_readme_has_the_example() {
