@@ -50,8 +50,7 @@ pub fn call_in(bytes: &[u8]) -> Option<Call> {
     let [nodes, links, sources, at_settings, at_links, at_sources] = [0, 4, 8, 12, 16, 20].map(|at| word(bytes, at));
     let (flags, many) = (word(bytes, 52), u64::from(sources));
     let end_of_links = LINKS as u64 + 16 * u64::from(links);
-    let within_limits =
-        nodes <= MOST_NODES && links as usize <= MOST_LINKS && sources as usize <= MOST_SOURCES;
+    let within_limits = nodes <= MOST_NODES && links as usize <= MOST_LINKS && sources as usize <= MOST_SOURCES;
     let in_place = at_settings as usize == SETTINGS
         && at_links as usize == LINKS
         && u64::from(at_sources) == end_of_links
@@ -67,8 +66,7 @@ pub fn call_in(bytes: &[u8]) -> Option<Call> {
         adaptive_threshold: flags == 1,
     };
     let (list, many) = bytes[LINKS..].split_at(16 * links as usize);
-    let list: Vec<_> =
-        list.chunks_exact(16).map(|link| (word(link, 0), word(link, 4), float(link, 8))).collect();
+    let list: Vec<_> = list.chunks_exact(16).map(|link| (word(link, 0), word(link, 4), float(link, 8))).collect();
     let many = many.chunks_exact(4).map(|source| word(source, 0)).collect();
     let wish = Wish { many, settings, ..Wish::default() };
     Some(Call::on_links(nodes, &list).solving(QUESTION).wishing(wish))

@@ -2,10 +2,11 @@
 //!
 //! compare [full] [seed N] [store] [forward] [backward] [bidirectional] [jobs] [planted]
 //!
-//! Without `full` it runs the share that the gate runs. Where parts are named it runs these: `store` is the square root, the
-//! norm, the graph store and the calls on vectors alone, `jobs` the job program as a process. `planted` puts one wrong digit
-//! into some of the proved library's answers, of the square root, of each call of the solvers and of the job program, to
-//! show that a difference is found: the program must then fail, and it does so only where each is found.
+//! Without `full` it runs the share that the gate runs. Where parts are named it runs these: `store` is the square
+//! root, the norm, the graph store and the calls on vectors alone, `jobs` the job program as a process. `planted` puts
+//! one wrong digit into some of the proved library's answers, of the square root, of each call of the solvers and of
+//! the job program, to show that a difference is found: the program must then fail, and it does so only where each is
+//! found.
 mod calls;
 mod graph;
 mod jobs;

@@ -1,4 +1,5 @@
-//! The job program beside the repaired Rust behind the same format, both as processes: from the start of one to its end.
+//! The job program beside the repaired Rust behind the same format, both as processes: from the start of one to its
+//! end.
 use crate::graph::drawn;
 use crate::keep;
 use runs::calls::call::{Call, Wish};

@@ -50,8 +50,8 @@ fn word(bytes: &[u8], place: usize) -> u32 {
     u32::from_le_bytes(bytes[place..place + 4].try_into().expect("four bytes"))
 }
 
-/// What may stand in a field in the place of its own number: those next to it, limits, and numbers of which a multiple, as
-/// bytes are counted, goes round to the right one in 32 digits.
+/// What may stand in a field in the place of its own number: those next to it, limits, and numbers of which a multiple,
+/// as bytes are counted, goes round to the right one in 32 digits.
 fn others(own: u32) -> Vec<u32> {
     let near = [1, 4, 8, 16].into_iter().flat_map(|by| [own.wrapping_add(by), own.wrapping_sub(by)]);
     let round = [1 << 16, 1 << 28, 1 << 29, 1 << 30, 1 << 31].map(|by| own.wrapping_add(by));
@@ -91,7 +91,8 @@ pub fn pairs_of_fields() -> Vec<Input> {
     found.into_iter().map(Input::new).collect()
 }
 
-/// A job's bytes, read with fewer links and more sources, or more links and fewer sources, as far as they have the shape.
+/// A job's bytes, read with fewer links and more sources, or more links and fewer sources, as far as they have the
+/// shape.
 pub fn shared_otherwise() -> Vec<Input> {
     let mut found = Vec::new();
     for bytes in small() {
@@ -147,7 +148,8 @@ fn of_length(bytes: &[u8], length: usize, rest: u8) -> Input {
     Input::new(bytes)
 }
 
-/// Each bit of the small jobs turned by itself: where that allows many pushes, the others still see to it that few are made.
+/// Each bit of the small jobs turned by itself: where that allows many pushes, the others still see to it that few are
+/// made.
 pub fn bits() -> Vec<Input> {
     let mut found = Vec::new();
     for bytes in small() {
@@ -180,8 +182,8 @@ pub fn several(random: &mut Random, count: u64) -> impl Iterator<Item = Input> +
     (0..count).map(damaged)
 }
 
-/// Whether the solve, if there is one, makes few pushes. With weights so small that their products are rounded up, one that
-/// is allowed many may never run out of them.
+/// Whether the solve, if there is one, makes few pushes. With weights so small that their products are rounded up, one
+/// that is allowed many may never run out of them.
 fn ends(input: &Input) -> bool {
     call_in(&input.bytes).is_none_or(|call| refusal(&call) != 0 || call.wish.settings.max_pushes <= 20_000)
 }

@@ -1,8 +1,9 @@
-//! Jobs that are sound, or nearly: every small list, random ones, graphs with a plan, many pushes, sources of all kinds.
+//! Jobs that are sound, or nearly: every small list, random ones, graphs with a plan, many pushes, sources of all
+//! kinds.
 use super::input::Input;
 use super::limits::ENTRY;
-use crate::calls::wishes::{self, one_of};
 use crate::calls::lists;
+use crate::calls::wishes::{self, one_of};
 use crate::solves::Layout;
 use runs::calls::call::{Call, Wish};
 use runs::calls::entry::Solver;
@@ -76,8 +77,8 @@ pub fn ways(random: &mut Random, count: u64) -> impl Iterator<Item = Input> + '_
     })
 }
 
-/// Few nodes, pushed up to each thousand and one more, with a threshold that adapts, and with one that does not: that makes
-/// another text of some.
+/// Few nodes, pushed up to each thousand and one more, with a threshold that adapts, and with one that does not: that
+/// makes another text of some.
 pub fn thousands(random: &mut Random, count: u64) -> Vec<Input> {
     let calls = Layout(Solver::Forward).thousands(random, count);
     let both: Vec<[Input; 2]> = calls.into_iter().map(|call| with_either_mark(call.solving(QUESTION))).collect();
@@ -85,14 +86,14 @@ pub fn thousands(random: &mut Random, count: u64) -> Vec<Input> {
     both.into_iter().flatten().collect()
 }
 
-/// A source with a link to each of so many nodes that the queue holds all of them at each thousand: below 100 the threshold
-/// falls, and at 100 and above it stays.
+/// A source with a link to each of so many nodes that the queue holds all of them at each thousand: below 100 the
+/// threshold falls, and at 100 and above it stays.
 pub fn queue_sizes() -> Vec<Input> {
     const ALPHA: f64 = 0.01;
     let of_size = |size: u32| {
         let links: Vec<_> = (1..=size).map(|leaf| (0, leaf, 1.0)).collect();
-        // A part of what a node gets from the source, such that the nodes that leave the queue at last all leave it between
-        // two thousands.
+        // A part of what a node gets from the source, such that the nodes that leave the queue at last all leave it
+        // between two thousands.
         let queue_threshold = 0.32 * (1.0 - ALPHA) / f64::from(size);
         let settings =
             Settings { alpha: ALPHA, epsilon: 0.0, queue_threshold, max_pushes: 20_000, adaptive_threshold: true };
