@@ -1,7 +1,8 @@
-//! What the programs `compare`, `measure` and `record` share.
+//! What the programs `compare`, `measure`, `record` and `rust_job` share.
 pub mod calls;
 pub mod comparison;
 pub mod entries;
+pub mod jobs;
 pub mod lent;
 pub mod patterns;
 pub mod random;
