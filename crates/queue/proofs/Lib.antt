@@ -11,3 +11,8 @@ pub mod Settle
 mod Best
 pub mod Enter
 mod Leave
+mod Logic
+mod Local
+mod Record
+mod Thin
+mod ThinAdapt
