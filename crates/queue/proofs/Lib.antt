@@ -15,4 +15,6 @@ mod Logic
 mod Local
 mod Record
 mod Thin
+mod Buffers
 mod ThinAdapt
+mod ThinOffer

@@ -1,5 +1,5 @@
 -- The names of the program logic that the walks use, passed on, so that a walk brings them by one line. It declares nothing.
-pub use Prim.Native.Nat.{ℕ, _<_, _^_}
+pub use Prim.Native.Nat.{ℕ, _+_, _<_, _^_}
 pub use base.Fml.{GName, Lft, Share, ftrue, flft, fobs, fbor, fat}
 pub use base.Logic.{SProp, ent, sep, id⊢}
 pub use contract.Monad.{Fun}
