@@ -146,6 +146,65 @@ module _ {M : Type 1} (𝓤 : URA M) (H : Heap 𝓤) (A : Atoms 𝓤) (W : Given
           returns ! (look ! 36 refl) $ move ! (36 ∷ 37 ∷ []) $ gone ! $ move ! (34 ∷ 35 ∷ []) $ gone ! $ move ! (32 ∷ 33 ∷ []) $ gone ! $ move ! (30 ∷ 31 ∷ []) $ gone ! $ move ! (28 ∷ 29 ∷ []) $ gone ! $ move ! (26 ∷ 27 ∷ []) $ gone ! $ move ! (24 ∷ 25 ∷ []) $ gone ! $ move ! (22 ∷ 23 ∷ []) $ gone ! $ move ! (20 ∷ 21 ∷ []) $ gone ! $ move ! (18 ∷ 19 ∷ []) $ gone ! $ move ! (16 ∷ 17 ∷ []) $ gone ! $ move ! (14 ∷ 15 ∷ []) $ gone ! $ move ! (12 ∷ 13 ∷ []) $ gone ! $ move ! (10 ∷ 11 ∷ []) $ gone ! $ move ! (8 ∷ 9 ∷ []) $ gone ! $ free0 ! $
           keep ! (0 ∷ 1 ∷ 2 ∷ 7 ∷ 6 ∷ 5 ∷ 3 ∷ []) $ by ! (exits r zs e₁ e₂ e₃)))))))))))))))))))))))
 
+    -- ---- the function that holds the record in a local
+    abbrev mach : WorkQueue → Val
+    mach r = only (vals r)
+
+    abbrev HeldPost : Val → SProp 𝓤
+    HeldPost = walkOf 𝓤 H A value kept c .post ((κs, (q₁, (q₂, (q₃, tt))), tt, (h, beside), (mach h ∷ [], at)), g)
+
+    exits-held : Is Queue h (mach h ∷ []) → (r : WorkQueue) (zs : Lasts value κs (h, beside)) → length (zs .1 .0) ≡ length (x₁ .now) → length (zs .1 .1 .0) ≡ length (x₂ .now) → length (zs .1 .1 .1 .0) ≡ length (x₃ .now)
+        → ent 𝓤 (⋆ 𝓤 H A (said r zs ∷ ‵ (finally f64 (x₁ .name) (zs .1 .0)) ∷ ‵ (finally u32 (x₂ .name) (zs .1 .1 .0)) ∷ ‵ (finally u64 (x₃ .name) (zs .1 .1 .1 .0)) ∷ ‵ (Queue .own r (mach r ∷ [])) ∷ [])) (HeldPost (mach r))
+    exits-held was r zs e₁ e₂ e₃ =
+        qed W (said r zs ∷ ‵ (finally f64 (x₁ .name) (zs .1 .0)) ∷ ‵ (finally u32 (x₂ .name) (zs .1 .1 .0)) ∷ ‵ (finally u64 (x₃ .name) (zs .1 .1 .1 .0)) ∷ ‵ (Queue .own r (mach r ∷ [])) ∷ []) ∵
+        suffices ! _ (ends-at 𝓤 H A value kept c W ((κs, (q₁, (q₂, (q₃, tt))), tt, (h, beside), (mach h ∷ [], at)), g) (mach r) r zs (tt, (e₁, (e₂, (e₃, (tt, (tt, tt))))))) $
+        split ! $ move ! (2 ∷ 3 ∷ 4 ∷ 5 ∷ []) $
+        -- [the last lists; what the new record owns; the tokens; what is said]
+        nothing ! $ owned ! f64 (Is f64) (float-makes 𝓤 H A W binary64) p _ (refl, p-fits) $ fjoin ! $ owned ! u32 (Is u32) (uint-makes 𝓤 H A W w32) n _ (refl, n-fits) $ fjoin ! $
+        move ! (3 ∷ 0 ∷ []) $ fjoin ! $ move ! (2 ∷ 0 ∷ []) $ fjoin ! $ move ! (1 ∷ 0 ∷ []) $ fjoin ! $ owned ! Queue (Is Queue) (makes 𝓤 H A W) h _ was $ fjoin ! $
+        join ! $ move ! (1 ∷ 0 ∷ []) $ join ! $ done !
+
+    -- what f's triple binds outside: the local at block l, lent for the lifetime ν under the name γ
+    abbrev ref : ℕ → GName → RefT WorkQueue
+    ref l γ = record { ptr = (l, 0); name = γ; now = h }
+
+    abbrev to-thin : ℕ → ℕ → GName → Thin 𝓤 H A c .Ghost
+    to-thin l ν γ = (((ν ∷ [], κs), (fullShare, (q₁, (q₂, (q₃, tt)))), tt, (ref l γ, beside), (vptr l 0 ∷ [], at)), g)
+
+    abbrev passed-on : List RattleType
+    passed-on = MutSlice (named 0) κ₁ f64 ∷ MutSlice (named 1) κ₂ u32 ∷ MutSlice (named 2) κ₃ u64 ∷ u32 ∷ f64 ∷ []
+
+    walk-held : (C : Calls 𝓤 H) (Λ : Loops 𝓤 H) → FmC 𝓤 H (W .laws) C → (k : Name) → Triple 𝓤 (C k) (Thin 𝓤 H A c) → Is Queue h (mach h ∷ []) → Room f64 (length (x₁ .now)) → Room u32 (length (x₂ .now)) → Room u64 (length (x₃ .now))
+        → ent 𝓤 (sep 𝓤 (onEntry 𝓤 H A (value .signature) κs (q₁, (q₂, (q₃, tt))) (h, beside) (mach h ∷ [], at)) (c κs (h, beside) .requires g)) (WpFn 𝓤 H C Λ (holding k) (mach h ∷ machine x₁ ∷ machine x₂ ∷ machine x₃ ∷ vint w32 n ∷ vfloat binary64 p ∷ []) HeldPost)
+    walk-held C Λ fm k known was room₁ room₂ room₃ =
+        qed W ((tokens 𝓤 κ₁ κ₂ κ₃ q₁ q₂ q₃ ⊛ ‵ (owns (Queue ∷ passed-on) (h, beside) (mach h ∷ [], at))) ∷ raw (c κs (h, beside) .requires g) ∷ []) ∵ split ! $ enter ! C Λ (holding k) (mach h ∷ machine x₁ ∷ machine x₂ ∷ machine x₃ ∷ vint w32 n ∷ vfloat binary64 p ∷ []) _ $
+        alloc1 ! (λ l₀. alloc1 ! (λ l₁. alloc1 ! (λ l₂. alloc1 ! (λ l₃. alloc1 ! (λ l₄. alloc1 ! (λ l₅. alloc1 ! (λ l₆. alloc1 ! (λ l₇. alloc1 ! (λ l₈. alloc1 ! (λ l₉. alloc1 ! (λ l₁₀. alloc1 ! (λ l₁₁. alloc1 ! (λ l₁₂. alloc1 ! (λ l₁₃. alloc1 ! (λ l₁₄. alloc1 ! (λ l₁₅. alloc0 ! $ params1 ! $
+        pass1 ! (init ! 28 refl (typed 𝓤 H A W h was)) $ pass1 ! (init ! 26 refl (tt, (tt, (record { fits = room₁ .0 }, tt)))) $ pass1 ! (init ! 24 refl (tt, (tt, (record { fits = room₂ .0 }, tt)))) $ pass1 ! (init ! 22 refl (tt, (tt, (record { fits = room₃ .0 }, tt)))) $
+        pass1 ! (init ! 20 refl (tt, record { fits = n-fits })) $ pass1 ! (init ! 18 refl (tt, passes _ p-fits)) $ pass0 ! $ move ! (33 ∷ []) $ fsplit ! $
+        -- [what the record owns; what buffers, node and priority own; _15; …; _1; …; room for _0; …; the buffers' tokens; what f requires]
+        assigns ! (of-opd ! (local ! 30 refl)) (from ! (stop !)) (init ! 18 refl (typed 𝓤 H A W h was)) $
+        assigns ! (addr ! (from ! (stop !))) (from ! (stop !)) (init ! 14 refl (tt, tt)) $
+        slice-again ! 28 12 10 refl refl refl refl refl refl refl refl (room₁ .0) $
+        slice-again ! 26 8 6 refl refl refl refl refl refl refl refl (room₂ .0) $
+        slice-again ! 24 4 2 refl refl refl refl refl refl refl refl (room₃ .0) $
+        -- the local is lent for a lifetime ν of the call
+        move ! (18 ∷ 0 ∷ []) $ use1 W (‵ (cellAt fullShare (Queue .mir) (vals h) l₇ 0)) (W .laws .at-raw fullShare T′.mir l₇ 0 (mach h)) $ lft-new ! tt (λ ν. move ! (1 ∷ 2 ∷ []) $ lends-local ! tt Queue (named 0) (ν ∷ []) h (vals h) l₇ 0 (λ γ.
+        -- [the loan; the lender's part; ν's token; what buffers, node and priority own; _15; …, with no _7; the buffers' tokens; what f requires]
+        move ! (2 ∷ 35 ∷ []) $ join ! $ move ! (1 ∷ 3 ∷ 0 ∷ 35 ∷ []) $ fjoin ! $ move ! (1 ∷ 0 ∷ []) $ join ! $ join ! $ use1 W (raw (Thin 𝓤 H A c .pre (to-thin l₇ ν γ))) (id⊢ 𝓤 _) $
+        calls-at ! fm (Thin 𝓤 H A c) known (to-thin l₇ ν γ) (and-then ! (local ! 14 refl) (and-then ! (local ! 10 refl) (and-then ! (local ! 6 refl) (and-then ! (local ! 2 refl) (and-then ! (local ! 21 refl) (and-then ! (local ! 19 refl) (no-more !))))))) (λ v.
+        told ! tt lent (thinned 𝓤 c) (to-thin l₇ ν γ) v (λ _ zs. use1 W (‵ (flft (ν ∷ []) fullShare) ⊛ tokens 𝓤 κ₁ κ₂ κ₃ q₁ q₂ q₃) (id⊢ 𝓤 _) $ split ! $ move ! (1 ∷ 4 ∷ []) $ join ! $
+        -- [the buffers' tokens and what f ensures; ν's token; the unit; what is said of last values; the lender's part; _15; …, with no _7]
+        move ! (2 ∷ []) $ feqL ! (λ unit. move ! (2 ∷ []) $ fsplit ! $ move ! (1 ∷ []) $ last-slice ! (λ e₁. move ! (1 ∷ []) $ last-slice ! (λ e₂. move ! (1 ∷ []) $ last-slice ! (λ e₃.
+        -- [marks' last list; …; nodes'; priorities'; the record's last value; the tokens and what f ensures; ν's token; the lender's part; _15; …, with no _7]
+        land ! (from ! (stop !)) (init ! 22 refl (subst (λ (y : Val). Holds (hasTy tyUnit y) × WT y) (sym (ap only unit)) (tt, tt))) $
+        -- the lifetime is ended, and the local comes back at that record
+        move ! (6 ∷ []) $ lft-end ! tt $ move ! (0 ∷ 7 ∷ 5 ∷ []) $ local-back ! tt Queue vals tells (ν ∷ []) γ (zs .0) l₇ 0 (λ is.
+        use1 W (‵ (fat fullShare T′.mir l₇ 0 (mach (zs .0)))) (W .laws .raw-at fullShare T′.mir l₇ 0 (mach (zs .0))) $
+        -- [_7; what the new record owns; marks' last list; …; nodes'; priorities'; the tokens and what f ensures; _15; …, with no _7]
+        assigns ! (of-opd ! (local ! 0 refl)) (from ! (stop !)) (init ! 36 refl (typed 𝓤 H A W (zs .0) is)) $
+        returns ! (look ! 36 refl) $ move ! (36 ∷ 37 ∷ []) $ gone ! $ move ! (34 ∷ 35 ∷ []) $ gone ! $ move ! (32 ∷ 33 ∷ []) $ gone ! $ move ! (30 ∷ 31 ∷ []) $ gone ! $ move ! (28 ∷ 29 ∷ []) $ gone ! $ move ! (26 ∷ 27 ∷ []) $ gone ! $ move ! (24 ∷ 25 ∷ []) $ gone ! $ move ! (0 ∷ 23 ∷ []) $ gone ! $ move ! (20 ∷ 21 ∷ []) $ gone ! $ move ! (18 ∷ 19 ∷ []) $ gone ! $ move ! (16 ∷ 17 ∷ []) $ gone ! $ move ! (14 ∷ 15 ∷ []) $ gone ! $ move ! (12 ∷ 13 ∷ []) $ gone ! $ move ! (10 ∷ 11 ∷ []) $ gone ! $ move ! (8 ∷ 9 ∷ []) $ gone ! $ move ! (6 ∷ 7 ∷ []) $ gone ! $ free0 ! $
+        keep ! (5 ∷ 4 ∷ 3 ∷ 1 ∷ 0 ∷ []) $ by ! (exits-held was (zs .0) (tt, zs .1) e₁ e₂ e₃))))))))))))))))))))))))))
+
 module _ {M : Type 1} (𝓤 : URA M) (H : Heap 𝓤) (A : Atoms 𝓤) (W : Given 𝓤 H A) (c : Clauses 𝓤 value) (𝓣 : Tables 𝓤 H) (k : Name) where
   pub replaces : Triple 𝓤 (𝓣 .C k) (ByValue 𝓤 H A c) → Meets 𝓤 H A (lent .signature) (WpFn 𝓤 H (𝓣 .C) (𝓣 .Λ) (thin k)) (closing 𝓤 H A lent (thinned 𝓤 c))
   replaces known =
@@ -156,3 +215,13 @@ module _ {M : Type 1} (𝓤 : URA M) (H : Heap 𝓤) (A : Atoms 𝓤) (W : Given
       (λ κs. (mut-tells (named 0) (κs .0) Queue, (mut-slice-tells (named 1) (κs .1 .0) f64, (mut-slice-tells (named 2) (κs .1 .1 .0) u32, (mut-slice-tells (named 3) (κs .1 .1 .1 .0) u64, (uint-tells w32, (float-tells binary64, tt)))))))
       (λ κs qs bounds a g are. walk 𝓤 H A W c (κs .1 .0) (κs .1 .1 .0) (κs .1 .1 .1 .0) (qs .1 .0) (qs .1 .1 .0) (qs .1 .1 .1 .0) (a .0 .now) (a .1 .0) (a .1 .1 .0) (a .1 .1 .1 .0) (a .1 .1 .1 .1 .0) (a .1 .1 .1 .1 .1 .0) (are .1 .1 .1 .1 .0 .1) (are .1 .1 .1 .1 .1 .0 .1) g
       (κs .0) (qs .0) (a .0 .ptr .0) (a .0 .ptr .1) (a .0 .name) (𝓣 .C) (𝓣 .Λ) (fmOf 𝓤 H (W .laws) 𝓣) k known (are .1 .0 .0 .1) (are .1 .1 .0 .0 .1) (are .1 .1 .1 .0 .0 .1))
+
+  pub holds : Triple 𝓤 (𝓣 .C k) (Thin 𝓤 H A c) → Meets 𝓤 H A (value .signature) (WpFn 𝓤 H (𝓣 .C) (𝓣 .Λ) (holding k)) (closing 𝓤 H A value c)
+  holds known =
+      meets-by 𝓤 H A W value kept
+      (goes-none 𝓤 H A W 3 (λ _. Queue) yes (λ κs x f. refl), (goes-gave-slice 𝓤 H A W 3 0 tt (plain (λ _. f64)), (goes-gave-slice 𝓤 H A W 3 1 tt (plain (λ _. u32)), (goes-gave-slice 𝓤 H A W 3 2 tt (plain (λ _. u64)), (goes-none 𝓤 H A W 3 (λ _. u32) yes (λ κs x f. refl), (goes-none 𝓤 H A W 3 (λ _. f64) yes (λ κs x f. refl), tt))))))
+      c 𝓣 (holding k)
+      (λ κs. (vals, (slice-vals, (slice-vals, (slice-vals, (uint-vals w32, (float-vals binary64, tt)))))))
+      (λ κs. (tells, (mut-slice-tells (named 0) (κs .0) f64, (mut-slice-tells (named 1) (κs .1 .0) u32, (mut-slice-tells (named 2) (κs .1 .1 .0) u64, (uint-tells w32, (float-tells binary64, tt)))))))
+      (λ κs qs bounds a g are. walk-held 𝓤 H A W c (κs .0) (κs .1 .0) (κs .1 .1 .0) (qs .0) (qs .1 .0) (qs .1 .1 .0) (a .0) (a .1 .0) (a .1 .1 .0) (a .1 .1 .1 .0) (a .1 .1 .1 .1 .0) (a .1 .1 .1 .1 .1 .0) (are .1 .1 .1 .1 .0 .1) (are .1 .1 .1 .1 .1 .0 .1) g
+      (𝓣 .C) (𝓣 .Λ) (fmOf 𝓤 H (W .laws) 𝓣) k known (are .0) (are .1 .0 .0 .1) (are .1 .1 .0 .0 .1) (are .1 .1 .1 .0 .0 .1))
