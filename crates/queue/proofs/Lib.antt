@@ -18,3 +18,4 @@ mod Thin
 mod Buffers
 mod ThinAdapt
 mod ThinOffer
+mod ThinPop
