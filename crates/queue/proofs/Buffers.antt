@@ -1,7 +1,7 @@
 -- The three buffers that are lent beside the queue's record: in MIR, in a signature by value (at its lifetimes 0, 1 and 2) and in one with the record lent (at 1, 2 and 3), and what a walk has of them.
 -- A walk passes them on at their own lifetimes, shares and ghost names: they are given up for good, and what the callee says of their last lists is what the caller says of them (`gave-slice`).
--- Assumes nothing, but for the laws that say that they take `Given`.
-use Rattle.queue.proofs.Logic.{_+_, ℕ, [], _∷_, List, length, Float, binary64, URA, named, w32, Val, Lft, Share, ftrue, flft, Heap, Atoms, Given, Item, ‵, _⊛_, RattleType, u32, u64, f64, RefT, sliceVal, MutSlice, plain, Stays, gave-slice, yes}
+-- Assumes nothing: these are definitions.
+use Rattle.queue.proofs.Logic.{_+_, ℕ, [], _∷_, List, length, binary64, URA, named, w32, Val, Lft, Share, ftrue, flft, Item, ‵, _⊛_, u32, u64, f64, RefT, sliceVal, plain, Stays, gave-slice, yes}
 use mir.Syntax.{Ty, Lifetime, Local, Body, local as lo, valueLocal, tyRef, tyInt, tyFloat, erased, mut, w64, assign, place, copy, deref, field, addrOf, aggregate, seq}
 use denote.Signature.{Slot, mutSliceOf}
 use denote.Slice.{sliceTy}

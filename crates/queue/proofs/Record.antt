@@ -1,4 +1,4 @@
--- The records `WorkQueue` and `Popped` as the walks use them: their types, their machine values, and what is known of one. Another plain record has the same by other names.
+-- The records `WorkQueue` and `Popped` as the walks use them: their types, their machine values, and what is known of one.
 --     Queue, vals, tells       its row, how a record's machine value is spelled, and that its relation tells it.        Pop, pop-vals, pop-tells     the same of `Popped`
 --     QueueS, PopS             their places in a signature
 --     typed, makes             what is related to a record has the struct's MIR type, and owns what a record owns.        pop-typed, pop-makes         the same of `Popped`

@@ -4,7 +4,7 @@
 --     holds            where f meets the thinned contract, h meets the one by value
 -- The walks open the reference, or lend the local, around the one call. The clauses are carried and never read, so that each is said of any contract.
 -- Assumes `Given`.
-use Rattle.queue.proofs.Logic.{_≡_, refl, sym, ap, subst, [], _∷_, List, ℕ, Holds, URA, fullShare, named, tyUnit, Val, WT, hasTy, vunit, vptr, SProp, ent, id⊢, sep, GName, Lft, Share, ftrue, fat, flft, fobs, fbor, Heap, Calls, Loops, WpFn, Atoms, Given, Item, ‵, raw, _⊛_, ⋆, _$_, _∵_, !, qed, by, move, keep, drop, use1, use3, split, join, fsplit, fsplit3, fjoin, fjoin3, feqI, feqL, suffices, done, look, look-raw, init, store-raw, stop, hop, from, load, addr, unit-lit, of-opd, and-then, no-more, assigns, land, returns, enter, alloc1, alloc0, params1, pass1, pass0, free0, lft-new, lft-end, Body, FmC, fmOf, owns, Is, shows, mem, cellAt, RefT, MutRef, ptr-vals, mut-tells, only, closes, owned, peeks, nothing, Contract, Triple, calls-at, onEntry, tripleOf, Stays, stay-ref, stay-none, walkOf, goes-ref, goes-none, ends-at, yes, plain}
+use Rattle.queue.proofs.Logic.{refl, sym, ap, subst, [], _∷_, List, ℕ, Holds, URA, fullShare, named, tyUnit, Val, WT, hasTy, vunit, vptr, SProp, ent, id⊢, sep, GName, Lft, Share, ftrue, fat, flft, fobs, fbor, Heap, Calls, Loops, WpFn, Atoms, Given, Item, ‵, raw, _⊛_, ⋆, _$_, _∵_, !, qed, by, move, keep, drop, use1, split, join, fsplit, fsplit3, fjoin, fjoin3, feqI, feqL, suffices, done, look, look-raw, init, store-raw, stop, hop, from, load, addr, unit-lit, of-opd, and-then, no-more, assigns, land, returns, enter, alloc1, alloc0, params1, pass1, pass0, free0, lft-new, lft-end, Body, FmC, fmOf, owns, Is, shows, mem, cellAt, RefT, MutRef, ptr-vals, mut-tells, only, closes, owned, peeks, nothing, Contract, Triple, calls-at, onEntry, tripleOf, Stays, stay-ref, stay-none, walkOf, goes-ref, goes-none, ends-at, yes, plain}
 use mir.Syntax.{Fn, Name, local as lo, valueLocal, memorySlot, tyRef, erased, mut, assign, place, rvOpd, copy, deref, addrOf, call, seq, opdUnit, return}
 use prog.Wp.{Tables}
 use denote.Memory.{pointee}

@@ -4,7 +4,7 @@
 --     holds            where f meets the thinned contract, h meets the one by value
 -- The walks are `ThinAdapt.antt`'s, with the buffers (`Buffers.antt`) passed on.
 -- Assumes `Given`.
-use Rattle.queue.proofs.Logic.{_≡_, refl, sym, ap, subst, true, ℕ, _<_, _^_, [], _∷_, List, Holds, length, Float, binary64, fits, URA, fullShare, named, w32, tyUnit, Val, WT, hasTy, vunit, vint, vfloat, vptr, SProp, ent, id⊢, sep, GName, Lft, Share, fat, flft, fobs, fbor, Heap, Calls, Loops, WpFn, Atoms, Given, Item, ‵, raw, _⊛_, ⋆, _$_, _∵_, !, qed, by, move, keep, drop, use1, split, join, fsplit, fsplit3, fjoin, fjoin3, feqI, feqL, suffices, done, look, look-raw, init, store-raw, stop, hop, from, load, addr, fld, whole, sub, look-in, agg, rewrite, of-opd, and-then, no-more, assigns, land, returns, enter, alloc1, alloc0, params1, pass1, pass0, free0, lft-new, lft-end, Body, FmC, fmOf, RattleType, owns, Is, shows, mem, cellAt, uint-vals, uint-tells, uint-makes, float-vals, float-tells, float-makes, passes, u32, u64, f64, RefT, MutRef, ptr-vals, mut-tells, MutSlice, Room, finally, slice-vals, mut-slice-tells, plain, only, closes, owned, peeks, nothing, Contract, Triple, calls-at, onEntry, tripleOf, Stays, stay-ref, stay-none, walkOf, goes-ref, goes-none, goes-gave-slice, ends-at, yes}
+use Rattle.queue.proofs.Logic.{_≡_, refl, sym, ap, subst, ℕ, _<_, _^_, [], _∷_, List, Holds, length, Float, fits, URA, fullShare, named, w32, Val, WT, hasTy, vint, vptr, SProp, ent, id⊢, sep, GName, Lft, Share, fat, flft, fobs, fbor, Heap, Calls, Loops, WpFn, Atoms, Given, Item, ‵, raw, _⊛_, ⋆, _$_, _∵_, !, qed, by, move, keep, drop, use1, split, join, fsplit, fsplit3, fjoin, fjoin3, feqI, suffices, done, look, look-raw, init, store-raw, stop, hop, from, load, addr, fld, whole, sub, look-in, agg, rewrite, of-opd, and-then, no-more, assigns, land, returns, enter, alloc1, alloc0, params1, pass1, pass0, free0, lft-new, lft-end, Body, FmC, fmOf, RattleType, owns, Is, shows, mem, cellAt, uint-makes, u32, u64, f64, RefT, MutRef, ptr-vals, mut-tells, MutSlice, Room, finally, slice-vals, mut-slice-tells, plain, only, closes, owned, peeks, nothing, Contract, Triple, calls-at, onEntry, tripleOf, Stays, stay-ref, stay-none, walkOf, goes-ref, goes-none, goes-gave-slice, ends-at, yes}
 use mir.Syntax.{Fn, Name, local as lo, valueLocal, memorySlot, tyRef, tyInt, erased, mut, assign, place, rvOpd, copy, deref, field, addrOf, aggregate, call, seq, return}
 use prog.Wp.{Tables}
 use contract.Lifetimes.{Lfts}
