@@ -6,9 +6,9 @@ ghost use lib.ListN.{length};
 ghost use Rattle.queue.specs.Waiting.{offered, usual, adapted};
 ghost use Rattle.queue.specs.Heap.{waiting, Heap};
 ghost use Rattle.queue.specs.Promises.{Holds, Removed};
-use crate::lent;
 use crate::Popped;
 use crate::WorkQueue;
+use crate::lent;
 
 // Offers the node v at a priority.
 pub fn offer(
