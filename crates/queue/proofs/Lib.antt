@@ -19,3 +19,4 @@ mod Buffers
 mod ThinAdapt
 mod ThinOffer
 mod ThinPop
+mod Promised

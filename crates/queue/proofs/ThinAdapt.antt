@@ -12,9 +12,8 @@ use denote.Builtin.{RefMutOf, unit}
 use denote.Triple.Clauses.{Ended, Clauses, closing}
 use denote.Triple.Spec.{Meets}
 use Rattle.queue.specs.declared.WorkQueue.{WorkQueue}
-use Rattle.queue.proofs.WorkQueue.Laws as T′
 use Rattle.queue.proofs.Local.{lends-local, local-back}
-use Rattle.queue.proofs.Record.{Queue, QueueS, vals, tells, typed, makes}
+use Rattle.queue.proofs.Record.{Queue, QueueSlot, queueType, vals, spelled, tells, typed, makes}
 use Rattle.queue.proofs.Thin.{local, opened, told, gone, meets-by}
 
 -- the code of f and of h, over the key of what each calls
@@ -23,11 +22,11 @@ thin k = record {
   lifetimes = 1;
   outlives = [];
   params = 1;
-  locals = lo tyUnit valueLocal ∷ lo (tyRef (named 0) mut (pointee (Queue .written))) valueLocal ∷ lo T′.mir valueLocal ∷ lo T′.mir valueLocal ∷ [];
+  locals = lo tyUnit valueLocal ∷ lo (tyRef (named 0) mut (pointee (Queue .written))) valueLocal ∷ lo queueType valueLocal ∷ lo queueType valueLocal ∷ [];
   body =
-      seq (assign (place 3 []) (rvOpd (copy (place 1 (deref T′.mir ∷ [])))))
+      seq (assign (place 3 []) (rvOpd (copy (place 1 (deref queueType ∷ [])))))
       (seq (call k (copy (place 3 []) ∷ []) (place 2 []))
-      (seq (assign (place 1 (deref T′.mir ∷ [])) (rvOpd (copy (place 2 []))))
+      (seq (assign (place 1 (deref queueType ∷ [])) (rvOpd (copy (place 2 []))))
       (seq (assign (place 0 []) (rvOpd opdUnit))
       return)));
 }
@@ -37,7 +36,7 @@ holding k = record {
   lifetimes = 0;
   outlives = [];
   params = 1;
-  locals = lo T′.mir valueLocal ∷ lo T′.mir valueLocal ∷ lo T′.mir memorySlot ∷ lo tyUnit valueLocal ∷ lo (tyRef erased mut (pointee (Queue .written))) valueLocal ∷ [];
+  locals = lo queueType valueLocal ∷ lo queueType valueLocal ∷ lo queueType memorySlot ∷ lo tyUnit valueLocal ∷ lo (tyRef erased mut (pointee (Queue .written))) valueLocal ∷ [];
   body =
       seq (assign (place 2 []) (rvOpd (copy (place 1 []))))
       (seq (assign (place 4 []) (addrOf (place 2 [])))
@@ -48,10 +47,10 @@ holding k = record {
 
 -- the two signatures
 abbrev pub value : Ended
-value = record { signature = record { lifetimes = 0; outlives = []; params = QueueS ∷ []; result = QueueS }; kept = (yes, tt) }
+value = record { signature = record { lifetimes = 0; outlives = []; params = QueueSlot ∷ []; result = QueueSlot }; kept = (yes, tt) }
 
 abbrev pub lent : Ended
-lent = record { signature = record { lifetimes = 1; outlives = []; params = RefMutOf (0 ∷ []) tt QueueS (λ κs. tt) ∷ []; result = plain (λ κs. unit) }; kept = (yes, tt) }
+lent = record { signature = record { lifetimes = 1; outlives = []; params = RefMutOf (0 ∷ []) tt QueueSlot (λ κs. tt) ∷ []; result = plain (λ κs. unit) }; kept = (yes, tt) }
 
 module _ {M : Type 1} (𝓤 : URA M) where
   abbrev pub thinned : Clauses 𝓤 value → Clauses 𝓤 lent
@@ -66,7 +65,7 @@ module _ {M : Type 1} (𝓤 : URA M) where
 
 -- ---- the thin function
 abbrev stayed : Stays (lent .signature .params) (lent .kept)
-stayed = (stay-ref (0 ∷ []) tt QueueS, tt)
+stayed = (stay-ref (0 ∷ []) tt QueueSlot, tt)
 
 module _ {M : Type 1} (𝓤 : URA M) (H : Heap 𝓤) (A : Atoms 𝓤) (W : Given 𝓤 H A) (c : Clauses 𝓤 value) (κ : Lft) (q : Share) (b o : ℕ) (γ : GName) (h : WorkQueue) (g : c tt (h, tt) .ghost) where
   abbrev a : RefT WorkQueue × Unit {0}
@@ -113,7 +112,7 @@ module _ {M : Type 1} (𝓤 : URA M) (H : Heap 𝓤) (A : Atoms 𝓤) (W : Given
 module _ {M : Type 1} (𝓤 : URA M) (H : Heap 𝓤) (A : Atoms 𝓤) (W : Given 𝓤 H A) (c : Clauses 𝓤 value) (𝓣 : Tables 𝓤 H) (k : Name) where
   pub replaces : Triple 𝓤 (𝓣 .C k) (ByValue 𝓤 H A c) → Meets 𝓤 H A (lent .signature) (WpFn 𝓤 H (𝓣 .C) (𝓣 .Λ) (thin k)) (closing 𝓤 H A lent (thinned 𝓤 c))
   replaces known =
-      meets-by 𝓤 H A W lent stayed (goes-ref 𝓤 H A W 1 0 tt QueueS, tt) (thinned 𝓤 c) 𝓣 (thin k) (λ κs. (ptr-vals, tt)) (λ κs. (mut-tells (named 0) (κs .0) Queue, tt))
+      meets-by 𝓤 H A W lent stayed (goes-ref 𝓤 H A W 1 0 tt QueueSlot, tt) (thinned 𝓤 c) 𝓣 (thin k) (λ κs. (ptr-vals, tt)) (λ κs. (mut-tells (named 0) (κs .0) Queue, tt))
       (λ κs qs bounds a g _. walk 𝓤 H A W c (κs .0) (qs .0) (a .0 .ptr .0) (a .0 .ptr .1) (a .0 .name) (a .0 .now) g (𝓣 .C) (𝓣 .Λ) (fmOf 𝓤 H (W .laws) 𝓣) k known)
 
 -- ---- the function that holds the record in a local
@@ -121,16 +120,13 @@ abbrev kept : Stays (value .signature .params) (value .kept)
 kept = (stay-none (λ _. Queue) yes, tt)
 
 module _ {M : Type 1} (𝓤 : URA M) (H : Heap 𝓤) (A : Atoms 𝓤) (W : Given 𝓤 H A) (c : Clauses 𝓤 value) (h : WorkQueue) (g : c tt (h, tt) .ghost) where
-  abbrev mach : WorkQueue → Val
-  mach r = only (vals r)
-
   abbrev HeldPost : Val → SProp 𝓤
-  HeldPost = walkOf 𝓤 H A value kept c .post ((tt, tt, tt, (h, tt), (mach h ∷ [], tt)), g)
+  HeldPost = walkOf 𝓤 H A value kept c .post ((tt, tt, tt, (h, tt), (spelled h ∷ [], tt)), g)
 
-  returns-held : Is Queue h (mach h ∷ []) → (r : WorkQueue) → ent 𝓤 (⋆ 𝓤 H A (‵ (Queue .own r (mach r ∷ [])) ∷ raw (c tt (h, tt) .ensures g r (h, tt)) ∷ [])) (HeldPost (mach r))
+  returns-held : Is Queue h (spelled h ∷ []) → (r : WorkQueue) → ent 𝓤 (⋆ 𝓤 H A (‵ (Queue .own r (spelled r ∷ [])) ∷ raw (c tt (h, tt) .ensures g r (h, tt)) ∷ [])) (HeldPost (spelled r))
   returns-held was r =
-      qed W (‵ (Queue .own r (mach r ∷ [])) ∷ raw (c tt (h, tt) .ensures g r (h, tt)) ∷ []) ∵
-      suffices ! _ (ends-at 𝓤 H A value kept c W ((tt, tt, tt, (h, tt), (mach h ∷ [], tt)), g) (mach r) r (tt, tt) (tt, tt)) $
+      qed W (‵ (Queue .own r (spelled r ∷ [])) ∷ raw (c tt (h, tt) .ensures g r (h, tt)) ∷ []) ∵
+      suffices ! _ (ends-at 𝓤 H A value kept c W ((tt, tt, tt, (h, tt), (spelled h ∷ [], tt)), g) (spelled r) r (tt, tt) (tt, tt)) $
       nothing ! $ owned ! Queue (Is Queue) (makes 𝓤 H A W) h _ was $ fjoin ! $ join ! $ nothing ! $ join ! $ done !
 
   -- what f's triple binds outside: the local at block l, lent for the lifetime ν under the name γ
@@ -140,17 +136,17 @@ module _ {M : Type 1} (𝓤 : URA M) (H : Heap 𝓤) (A : Atoms 𝓤) (W : Given
   abbrev to-thin : ℕ → ℕ → GName → Thin 𝓤 H A c .Ghost
   to-thin l ν γ = (((ν ∷ [], tt), (fullShare, tt), tt, (ref l γ, tt), (vptr l 0 ∷ [], tt)), g)
 
-  walk-held : (C : Calls 𝓤 H) (Λ : Loops 𝓤 H) → FmC 𝓤 H (W .laws) C → (k : Name) → Triple 𝓤 (C k) (Thin 𝓤 H A c) → Is Queue h (mach h ∷ [])
-      → ent 𝓤 (sep 𝓤 (onEntry 𝓤 H A (value .signature) tt tt (h, tt) (mach h ∷ [], tt)) (c tt (h, tt) .requires g)) (WpFn 𝓤 H C Λ (holding k) (mach h ∷ []) HeldPost)
+  walk-held : (C : Calls 𝓤 H) (Λ : Loops 𝓤 H) → FmC 𝓤 H (W .laws) C → (k : Name) → Triple 𝓤 (C k) (Thin 𝓤 H A c) → Is Queue h (spelled h ∷ [])
+      → ent 𝓤 (sep 𝓤 (onEntry 𝓤 H A (value .signature) tt tt (h, tt) (spelled h ∷ [], tt)) (c tt (h, tt) .requires g)) (WpFn 𝓤 H C Λ (holding k) (spelled h ∷ []) HeldPost)
   walk-held C Λ fm k known was =
-      qed W ((‵ ftrue ⊛ ‵ (owns (Queue ∷ []) (h, tt) (mach h ∷ [], tt))) ∷ raw (c tt (h, tt) .requires g) ∷ []) ∵ split ! $ drop ! $ enter ! C Λ (holding k) (mach h ∷ []) _ $
+      qed W ((‵ ftrue ⊛ ‵ (owns (Queue ∷ []) (h, tt) (spelled h ∷ [], tt))) ∷ raw (c tt (h, tt) .requires g) ∷ []) ∵ split ! $ drop ! $ enter ! C Λ (holding k) (spelled h ∷ []) _ $
       alloc1 ! (λ l₀. alloc1 ! (λ l₁. alloc1 ! (λ l₂. alloc1 ! (λ l₃. alloc1 ! (λ l₄. alloc0 ! $ params1 ! $ pass1 ! (init ! 6 refl (typed 𝓤 H A W h was)) $ pass0 ! $
       move ! (10 ∷ []) $ fsplit ! $
       -- [what the record owns; true; _4; …; _1; …; room for _0; …; what f requires]
       assigns ! (of-opd ! (local ! 8 refl)) (from ! (stop !)) (init ! 6 refl (typed 𝓤 H A W h was)) $
       assigns ! (addr ! (from ! (stop !))) (from ! (stop !)) (init ! 2 refl (tt, tt)) $
       -- the local is lent for a lifetime ν of the call
-      move ! (6 ∷ 0 ∷ []) $ use1 W (‵ (cellAt fullShare (Queue .mir) (vals h) l₂ 0)) (W .laws .at-raw fullShare T′.mir l₂ 0 (mach h)) $ lft-new ! tt (λ ν. move ! (1 ∷ 2 ∷ []) $ lends-local ! tt Queue (named 0) (ν ∷ []) h (vals h) l₂ 0 (λ γ.
+      move ! (6 ∷ 0 ∷ []) $ use1 W (‵ (cellAt fullShare (Queue .mir) (vals h) l₂ 0)) (W .laws .at-raw fullShare queueType l₂ 0 (spelled h)) $ lft-new ! tt (λ ν. move ! (1 ∷ 2 ∷ []) $ lends-local ! tt Queue (named 0) (ν ∷ []) h (vals h) l₂ 0 (λ γ.
       -- [the loan; the lender's part; ν's token; true; _4; …, with no _2; what f requires]
       move ! (2 ∷ 3 ∷ []) $ join ! $ nothing ! $ move ! (2 ∷ 0 ∷ []) $ fjoin ! $ move ! (1 ∷ 0 ∷ []) $ join ! $ move ! (0 ∷ 11 ∷ []) $ join ! $ use1 W (raw (Thin 𝓤 H A c .pre (to-thin l₂ ν γ))) (id⊢ 𝓤 _) $
       calls-at ! fm (Thin 𝓤 H A c) known (to-thin l₂ ν γ) (and-then ! (local ! 2 refl) (no-more !)) (λ v. told ! tt lent (thinned 𝓤 c) (to-thin l₂ ν γ) v (λ _ zs.
@@ -159,7 +155,7 @@ module _ {M : Type 1} (𝓤 : URA M) (H : Heap 𝓤) (A : Atoms 𝓤) (W : Given
       land ! (from ! (stop !)) (init ! 7 refl (subst (λ (y : Val). Holds (hasTy tyUnit y) × WT y) (sym (ap only unit)) (tt, tt))) $
       -- the lifetime is ended, and the local comes back at that record
       move ! (2 ∷ []) $ split ! $ lft-end ! tt $ move ! (0 ∷ 5 ∷ 2 ∷ []) $ local-back ! tt Queue vals tells (ν ∷ []) γ (zs .0) l₂ 0 (λ is.
-      use1 W (‵ (fat fullShare T′.mir l₂ 0 (mach (zs .0)))) (W .laws .raw-at fullShare T′.mir l₂ 0 (mach (zs .0))) $
+      use1 W (‵ (fat fullShare queueType l₂ 0 (spelled (zs .0)))) (W .laws .raw-at fullShare queueType l₂ 0 (spelled (zs .0))) $
       -- [_2; what the new record owns; true; true; what f ensures; _4; …, with no _2]
       assigns ! (of-opd ! (local ! 0 refl)) (from ! (stop !)) (init ! 12 refl (typed 𝓤 H A W (zs .0) is)) $
       returns ! (look ! 12 refl) $ move ! (12 ∷ 13 ∷ []) $ gone ! $ move ! (10 ∷ 11 ∷ []) $ gone ! $ move ! (0 ∷ 9 ∷ []) $ gone ! $ move ! (6 ∷ 7 ∷ []) $ gone ! $ move ! (4 ∷ 5 ∷ []) $ gone ! $ free0 ! $ keep ! (0 ∷ 3 ∷ []) $ by ! (returns-held was (zs .0)))))))))))))

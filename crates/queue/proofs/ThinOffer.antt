@@ -14,10 +14,9 @@ use denote.Triple.Clauses.{Ended, Clauses, Lasts, atExit, closing}
 use denote.Triple.Entry.{Args}
 use denote.Triple.Spec.{Meets}
 use Rattle.queue.specs.declared.WorkQueue.{WorkQueue}
-use Rattle.queue.proofs.WorkQueue.Laws as T′
 use Rattle.queue.proofs.Buffers.{passed, anew, allMade, slotsByValue, slotsLent, gaveByValue, gaveLent, machine, tokens}
 use Rattle.queue.proofs.Local.{lends-local, local-back}
-use Rattle.queue.proofs.Record.{Queue, QueueS, vals, tells, typed, makes}
+use Rattle.queue.proofs.Record.{Queue, QueueSlot, queueType, vals, spelled, tells, typed, makes}
 use Rattle.queue.proofs.Thin.{local, slice-again, opened, told, last-slice, gone, meets-by}
 
 -- the code of f and of h, over the key of what each calls
@@ -26,12 +25,12 @@ thin k = record {
   lifetimes = 4;
   outlives = [];
   params = 6;
-  locals = lo tyUnit valueLocal ∷ lo (tyRef (named 0) mut (pointee (Queue .written))) valueLocal ∷ passed 1 (lo (tyInt w32) valueLocal ∷ lo (tyFloat binary64) valueLocal ∷ lo T′.mir valueLocal ∷ lo T′.mir valueLocal ∷ anew []);
+  locals = lo tyUnit valueLocal ∷ lo (tyRef (named 0) mut (pointee (Queue .written))) valueLocal ∷ passed 1 (lo (tyInt w32) valueLocal ∷ lo (tyFloat binary64) valueLocal ∷ lo queueType valueLocal ∷ lo queueType valueLocal ∷ anew []);
   body =
-      seq (assign (place 8 []) (rvOpd (copy (place 1 (deref T′.mir ∷ [])))))
+      seq (assign (place 8 []) (rvOpd (copy (place 1 (deref queueType ∷ [])))))
       (allMade 9
       (seq (call k (copy (place 8 []) ∷ copy (place 10 []) ∷ copy (place 12 []) ∷ copy (place 14 []) ∷ copy (place 5 []) ∷ copy (place 6 []) ∷ []) (place 7 []))
-      (seq (assign (place 1 (deref T′.mir ∷ [])) (rvOpd (copy (place 7 []))))
+      (seq (assign (place 1 (deref queueType ∷ [])) (rvOpd (copy (place 7 []))))
       (seq (assign (place 0 []) (rvOpd opdUnit))
       return))));
 }
@@ -41,7 +40,7 @@ holding k = record {
   lifetimes = 3;
   outlives = [];
   params = 6;
-  locals = lo T′.mir valueLocal ∷ lo T′.mir valueLocal ∷ passed 0 (lo (tyInt w32) valueLocal ∷ lo (tyFloat binary64) valueLocal ∷ lo T′.mir memorySlot ∷ lo tyUnit valueLocal ∷ lo (tyRef erased mut (pointee (Queue .written))) valueLocal ∷ anew []);
+  locals = lo queueType valueLocal ∷ lo queueType valueLocal ∷ passed 0 (lo (tyInt w32) valueLocal ∷ lo (tyFloat binary64) valueLocal ∷ lo queueType memorySlot ∷ lo tyUnit valueLocal ∷ lo (tyRef erased mut (pointee (Queue .written))) valueLocal ∷ anew []);
   body =
       seq (assign (place 7 []) (rvOpd (copy (place 1 []))))
       (seq (assign (place 9 []) (addrOf (place 7 [])))
@@ -53,10 +52,10 @@ holding k = record {
 
 -- the two signatures
 abbrev pub value : Ended
-value = record { signature = record { lifetimes = 3; outlives = []; params = QueueS ∷ slotsByValue (plain (λ _. u32) ∷ plain (λ _. f64) ∷ []); result = QueueS }; kept = (yes, (yes, (yes, (yes, (yes, (yes, tt)))))) }
+value = record { signature = record { lifetimes = 3; outlives = []; params = QueueSlot ∷ slotsByValue (plain (λ _. u32) ∷ plain (λ _. f64) ∷ []); result = QueueSlot }; kept = (yes, (yes, (yes, (yes, (yes, (yes, tt)))))) }
 
 abbrev pub lent : Ended
-lent = record { signature = record { lifetimes = 4; outlives = []; params = RefMutOf (0 ∷ []) tt QueueS (λ κs. tt) ∷ slotsLent (plain (λ _. u32) ∷ plain (λ _. f64) ∷ []); result = plain (λ κs. unit) }; kept = (yes, (yes, (yes, (yes, (yes, (yes, tt)))))) }
+lent = record { signature = record { lifetimes = 4; outlives = []; params = RefMutOf (0 ∷ []) tt QueueSlot (λ κs. tt) ∷ slotsLent (plain (λ _. u32) ∷ plain (λ _. f64) ∷ []); result = plain (λ κs. unit) }; kept = (yes, (yes, (yes, (yes, (yes, (yes, tt)))))) }
 
 module _ {M : Type 1} (𝓤 : URA M) where
   abbrev pub thinned : Clauses 𝓤 value → Clauses 𝓤 lent
@@ -71,7 +70,7 @@ module _ {M : Type 1} (𝓤 : URA M) where
 
 -- what is had of the parameters at exit
 abbrev stayed : Stays (lent .signature .params) (lent .kept)
-stayed = (stay-ref (0 ∷ []) tt QueueS, gaveLent (plain (λ _. u32) ∷ plain (λ _. f64) ∷ []) (yes, (yes, tt)) (stay-none (λ _. u32) yes, (stay-none (λ _. f64) yes, tt)))
+stayed = (stay-ref (0 ∷ []) tt QueueSlot, gaveLent (plain (λ _. u32) ∷ plain (λ _. f64) ∷ []) (yes, (yes, tt)) (stay-none (λ _. u32) yes, (stay-none (λ _. f64) yes, tt)))
 
 abbrev kept : Stays (value .signature .params) (value .kept)
 kept = (stay-none (λ _. Queue) yes, gaveByValue (plain (λ _. u32) ∷ plain (λ _. f64) ∷ []) (yes, (yes, tt)) (stay-none (λ _. u32) yes, (stay-none (λ _. f64) yes, tt)))
@@ -147,17 +146,14 @@ module _ {M : Type 1} (𝓤 : URA M) (H : Heap 𝓤) (A : Atoms 𝓤) (W : Given
           keep ! (0 ∷ 1 ∷ 2 ∷ 7 ∷ 6 ∷ 5 ∷ 3 ∷ []) $ by ! (exits r zs e₁ e₂ e₃)))))))))))))))))))))))
 
     -- ---- the function that holds the record in a local
-    abbrev mach : WorkQueue → Val
-    mach r = only (vals r)
-
     abbrev HeldPost : Val → SProp 𝓤
-    HeldPost = walkOf 𝓤 H A value kept c .post ((κs, (q₁, (q₂, (q₃, tt))), tt, (h, beside), (mach h ∷ [], at)), g)
+    HeldPost = walkOf 𝓤 H A value kept c .post ((κs, (q₁, (q₂, (q₃, tt))), tt, (h, beside), (spelled h ∷ [], at)), g)
 
-    exits-held : Is Queue h (mach h ∷ []) → (r : WorkQueue) (zs : Lasts value κs (h, beside)) → length (zs .1 .0) ≡ length (x₁ .now) → length (zs .1 .1 .0) ≡ length (x₂ .now) → length (zs .1 .1 .1 .0) ≡ length (x₃ .now)
-        → ent 𝓤 (⋆ 𝓤 H A (said r zs ∷ ‵ (finally f64 (x₁ .name) (zs .1 .0)) ∷ ‵ (finally u32 (x₂ .name) (zs .1 .1 .0)) ∷ ‵ (finally u64 (x₃ .name) (zs .1 .1 .1 .0)) ∷ ‵ (Queue .own r (mach r ∷ [])) ∷ [])) (HeldPost (mach r))
+    exits-held : Is Queue h (spelled h ∷ []) → (r : WorkQueue) (zs : Lasts value κs (h, beside)) → length (zs .1 .0) ≡ length (x₁ .now) → length (zs .1 .1 .0) ≡ length (x₂ .now) → length (zs .1 .1 .1 .0) ≡ length (x₃ .now)
+        → ent 𝓤 (⋆ 𝓤 H A (said r zs ∷ ‵ (finally f64 (x₁ .name) (zs .1 .0)) ∷ ‵ (finally u32 (x₂ .name) (zs .1 .1 .0)) ∷ ‵ (finally u64 (x₃ .name) (zs .1 .1 .1 .0)) ∷ ‵ (Queue .own r (spelled r ∷ [])) ∷ [])) (HeldPost (spelled r))
     exits-held was r zs e₁ e₂ e₃ =
-        qed W (said r zs ∷ ‵ (finally f64 (x₁ .name) (zs .1 .0)) ∷ ‵ (finally u32 (x₂ .name) (zs .1 .1 .0)) ∷ ‵ (finally u64 (x₃ .name) (zs .1 .1 .1 .0)) ∷ ‵ (Queue .own r (mach r ∷ [])) ∷ []) ∵
-        suffices ! _ (ends-at 𝓤 H A value kept c W ((κs, (q₁, (q₂, (q₃, tt))), tt, (h, beside), (mach h ∷ [], at)), g) (mach r) r zs (tt, (e₁, (e₂, (e₃, (tt, (tt, tt))))))) $
+        qed W (said r zs ∷ ‵ (finally f64 (x₁ .name) (zs .1 .0)) ∷ ‵ (finally u32 (x₂ .name) (zs .1 .1 .0)) ∷ ‵ (finally u64 (x₃ .name) (zs .1 .1 .1 .0)) ∷ ‵ (Queue .own r (spelled r ∷ [])) ∷ []) ∵
+        suffices ! _ (ends-at 𝓤 H A value kept c W ((κs, (q₁, (q₂, (q₃, tt))), tt, (h, beside), (spelled h ∷ [], at)), g) (spelled r) r zs (tt, (e₁, (e₂, (e₃, (tt, (tt, tt))))))) $
         split ! $ move ! (2 ∷ 3 ∷ 4 ∷ 5 ∷ []) $
         -- [the last lists; what the new record owns; the tokens; what is said]
         nothing ! $ owned ! f64 (Is f64) (float-makes 𝓤 H A W binary64) p _ (refl, p-fits) $ fjoin ! $ owned ! u32 (Is u32) (uint-makes 𝓤 H A W w32) n _ (refl, n-fits) $ fjoin ! $
@@ -174,10 +170,10 @@ module _ {M : Type 1} (𝓤 : URA M) (H : Heap 𝓤) (A : Atoms 𝓤) (W : Given
     abbrev passed-on : List RattleType
     passed-on = MutSlice (named 0) κ₁ f64 ∷ MutSlice (named 1) κ₂ u32 ∷ MutSlice (named 2) κ₃ u64 ∷ u32 ∷ f64 ∷ []
 
-    walk-held : (C : Calls 𝓤 H) (Λ : Loops 𝓤 H) → FmC 𝓤 H (W .laws) C → (k : Name) → Triple 𝓤 (C k) (Thin 𝓤 H A c) → Is Queue h (mach h ∷ []) → Room f64 (length (x₁ .now)) → Room u32 (length (x₂ .now)) → Room u64 (length (x₃ .now))
-        → ent 𝓤 (sep 𝓤 (onEntry 𝓤 H A (value .signature) κs (q₁, (q₂, (q₃, tt))) (h, beside) (mach h ∷ [], at)) (c κs (h, beside) .requires g)) (WpFn 𝓤 H C Λ (holding k) (mach h ∷ machine x₁ ∷ machine x₂ ∷ machine x₃ ∷ vint w32 n ∷ vfloat binary64 p ∷ []) HeldPost)
+    walk-held : (C : Calls 𝓤 H) (Λ : Loops 𝓤 H) → FmC 𝓤 H (W .laws) C → (k : Name) → Triple 𝓤 (C k) (Thin 𝓤 H A c) → Is Queue h (spelled h ∷ []) → Room f64 (length (x₁ .now)) → Room u32 (length (x₂ .now)) → Room u64 (length (x₃ .now))
+        → ent 𝓤 (sep 𝓤 (onEntry 𝓤 H A (value .signature) κs (q₁, (q₂, (q₃, tt))) (h, beside) (spelled h ∷ [], at)) (c κs (h, beside) .requires g)) (WpFn 𝓤 H C Λ (holding k) (spelled h ∷ machine x₁ ∷ machine x₂ ∷ machine x₃ ∷ vint w32 n ∷ vfloat binary64 p ∷ []) HeldPost)
     walk-held C Λ fm k known was room₁ room₂ room₃ =
-        qed W ((tokens 𝓤 κ₁ κ₂ κ₃ q₁ q₂ q₃ ⊛ ‵ (owns (Queue ∷ passed-on) (h, beside) (mach h ∷ [], at))) ∷ raw (c κs (h, beside) .requires g) ∷ []) ∵ split ! $ enter ! C Λ (holding k) (mach h ∷ machine x₁ ∷ machine x₂ ∷ machine x₃ ∷ vint w32 n ∷ vfloat binary64 p ∷ []) _ $
+        qed W ((tokens 𝓤 κ₁ κ₂ κ₃ q₁ q₂ q₃ ⊛ ‵ (owns (Queue ∷ passed-on) (h, beside) (spelled h ∷ [], at))) ∷ raw (c κs (h, beside) .requires g) ∷ []) ∵ split ! $ enter ! C Λ (holding k) (spelled h ∷ machine x₁ ∷ machine x₂ ∷ machine x₃ ∷ vint w32 n ∷ vfloat binary64 p ∷ []) _ $
         alloc1 ! (λ l₀. alloc1 ! (λ l₁. alloc1 ! (λ l₂. alloc1 ! (λ l₃. alloc1 ! (λ l₄. alloc1 ! (λ l₅. alloc1 ! (λ l₆. alloc1 ! (λ l₇. alloc1 ! (λ l₈. alloc1 ! (λ l₉. alloc1 ! (λ l₁₀. alloc1 ! (λ l₁₁. alloc1 ! (λ l₁₂. alloc1 ! (λ l₁₃. alloc1 ! (λ l₁₄. alloc1 ! (λ l₁₅. alloc0 ! $ params1 ! $
         pass1 ! (init ! 28 refl (typed 𝓤 H A W h was)) $ pass1 ! (init ! 26 refl (tt, (tt, (record { fits = room₁ .0 }, tt)))) $ pass1 ! (init ! 24 refl (tt, (tt, (record { fits = room₂ .0 }, tt)))) $ pass1 ! (init ! 22 refl (tt, (tt, (record { fits = room₃ .0 }, tt)))) $
         pass1 ! (init ! 20 refl (tt, record { fits = n-fits })) $ pass1 ! (init ! 18 refl (tt, passes _ p-fits)) $ pass0 ! $ move ! (33 ∷ []) $ fsplit ! $
@@ -188,7 +184,7 @@ module _ {M : Type 1} (𝓤 : URA M) (H : Heap 𝓤) (A : Atoms 𝓤) (W : Given
         slice-again ! 26 8 6 refl refl refl refl refl refl refl refl (room₂ .0) $
         slice-again ! 24 4 2 refl refl refl refl refl refl refl refl (room₃ .0) $
         -- the local is lent for a lifetime ν of the call
-        move ! (18 ∷ 0 ∷ []) $ use1 W (‵ (cellAt fullShare (Queue .mir) (vals h) l₇ 0)) (W .laws .at-raw fullShare T′.mir l₇ 0 (mach h)) $ lft-new ! tt (λ ν. move ! (1 ∷ 2 ∷ []) $ lends-local ! tt Queue (named 0) (ν ∷ []) h (vals h) l₇ 0 (λ γ.
+        move ! (18 ∷ 0 ∷ []) $ use1 W (‵ (cellAt fullShare (Queue .mir) (vals h) l₇ 0)) (W .laws .at-raw fullShare queueType l₇ 0 (spelled h)) $ lft-new ! tt (λ ν. move ! (1 ∷ 2 ∷ []) $ lends-local ! tt Queue (named 0) (ν ∷ []) h (vals h) l₇ 0 (λ γ.
         -- [the loan; the lender's part; ν's token; what buffers, node and priority own; _15; …, with no _7; the buffers' tokens; what f requires]
         move ! (2 ∷ 35 ∷ []) $ join ! $ move ! (1 ∷ 3 ∷ 0 ∷ 35 ∷ []) $ fjoin ! $ move ! (1 ∷ 0 ∷ []) $ join ! $ join ! $ use1 W (raw (Thin 𝓤 H A c .pre (to-thin l₇ ν γ))) (id⊢ 𝓤 _) $
         calls-at ! fm (Thin 𝓤 H A c) known (to-thin l₇ ν γ) (and-then ! (local ! 14 refl) (and-then ! (local ! 10 refl) (and-then ! (local ! 6 refl) (and-then ! (local ! 2 refl) (and-then ! (local ! 21 refl) (and-then ! (local ! 19 refl) (no-more !))))))) (λ v.
@@ -199,7 +195,7 @@ module _ {M : Type 1} (𝓤 : URA M) (H : Heap 𝓤) (A : Atoms 𝓤) (W : Given
         land ! (from ! (stop !)) (init ! 22 refl (subst (λ (y : Val). Holds (hasTy tyUnit y) × WT y) (sym (ap only unit)) (tt, tt))) $
         -- the lifetime is ended, and the local comes back at that record
         move ! (6 ∷ []) $ lft-end ! tt $ move ! (0 ∷ 7 ∷ 5 ∷ []) $ local-back ! tt Queue vals tells (ν ∷ []) γ (zs .0) l₇ 0 (λ is.
-        use1 W (‵ (fat fullShare T′.mir l₇ 0 (mach (zs .0)))) (W .laws .raw-at fullShare T′.mir l₇ 0 (mach (zs .0))) $
+        use1 W (‵ (fat fullShare queueType l₇ 0 (spelled (zs .0)))) (W .laws .raw-at fullShare queueType l₇ 0 (spelled (zs .0))) $
         -- [_7; what the new record owns; marks' last list; …; nodes'; priorities'; the tokens and what f ensures; _15; …, with no _7]
         assigns ! (of-opd ! (local ! 0 refl)) (from ! (stop !)) (init ! 36 refl (typed 𝓤 H A W (zs .0) is)) $
         returns ! (look ! 36 refl) $ move ! (36 ∷ 37 ∷ []) $ gone ! $ move ! (34 ∷ 35 ∷ []) $ gone ! $ move ! (32 ∷ 33 ∷ []) $ gone ! $ move ! (30 ∷ 31 ∷ []) $ gone ! $ move ! (28 ∷ 29 ∷ []) $ gone ! $ move ! (26 ∷ 27 ∷ []) $ gone ! $ move ! (24 ∷ 25 ∷ []) $ gone ! $ move ! (0 ∷ 23 ∷ []) $ gone ! $ move ! (20 ∷ 21 ∷ []) $ gone ! $ move ! (18 ∷ 19 ∷ []) $ gone ! $ move ! (16 ∷ 17 ∷ []) $ gone ! $ move ! (14 ∷ 15 ∷ []) $ gone ! $ move ! (12 ∷ 13 ∷ []) $ gone ! $ move ! (10 ∷ 11 ∷ []) $ gone ! $ move ! (8 ∷ 9 ∷ []) $ gone ! $ move ! (6 ∷ 7 ∷ []) $ gone ! $ free0 ! $
@@ -209,7 +205,7 @@ module _ {M : Type 1} (𝓤 : URA M) (H : Heap 𝓤) (A : Atoms 𝓤) (W : Given
   pub replaces : Triple 𝓤 (𝓣 .C k) (ByValue 𝓤 H A c) → Meets 𝓤 H A (lent .signature) (WpFn 𝓤 H (𝓣 .C) (𝓣 .Λ) (thin k)) (closing 𝓤 H A lent (thinned 𝓤 c))
   replaces known =
       meets-by 𝓤 H A W lent stayed
-      (goes-ref 𝓤 H A W 4 0 tt QueueS, (goes-gave-slice 𝓤 H A W 4 1 tt (plain (λ _. f64)), (goes-gave-slice 𝓤 H A W 4 2 tt (plain (λ _. u32)), (goes-gave-slice 𝓤 H A W 4 3 tt (plain (λ _. u64)), (goes-none 𝓤 H A W 4 (λ _. u32) yes (λ κs x f. refl), (goes-none 𝓤 H A W 4 (λ _. f64) yes (λ κs x f. refl), tt))))))
+      (goes-ref 𝓤 H A W 4 0 tt QueueSlot, (goes-gave-slice 𝓤 H A W 4 1 tt (plain (λ _. f64)), (goes-gave-slice 𝓤 H A W 4 2 tt (plain (λ _. u32)), (goes-gave-slice 𝓤 H A W 4 3 tt (plain (λ _. u64)), (goes-none 𝓤 H A W 4 (λ _. u32) yes (λ κs x f. refl), (goes-none 𝓤 H A W 4 (λ _. f64) yes (λ κs x f. refl), tt))))))
       (thinned 𝓤 c) 𝓣 (thin k)
       (λ κs. (ptr-vals, (slice-vals, (slice-vals, (slice-vals, (uint-vals w32, (float-vals binary64, tt)))))))
       (λ κs. (mut-tells (named 0) (κs .0) Queue, (mut-slice-tells (named 1) (κs .1 .0) f64, (mut-slice-tells (named 2) (κs .1 .1 .0) u32, (mut-slice-tells (named 3) (κs .1 .1 .1 .0) u64, (uint-tells w32, (float-tells binary64, tt)))))))

@@ -15,11 +15,9 @@ use denote.Triple.Entry.{Args}
 use denote.Triple.Spec.{Meets}
 use Rattle.queue.specs.declared.WorkQueue.{WorkQueue}
 use Rattle.queue.specs.declared.Popped.{Popped}
-use Rattle.queue.proofs.WorkQueue.Laws as T′
-use Rattle.queue.proofs.Popped.Laws as R′
 use Rattle.queue.proofs.Buffers.{passed, anew, allMade, slotsByValue, slotsLent, gaveByValue, gaveLent, machine, tokens}
 use Rattle.queue.proofs.Local.{lends-local, local-back}
-use Rattle.queue.proofs.Record.{Queue, QueueS, vals, tells, typed, makes, Pop, PopS, pop-vals, pop-tells, queue-in, node-in, pop-is, pop-typed, pop-makes}
+use Rattle.queue.proofs.Record.{Queue, QueueSlot, queueType, vals, spelled, tells, typed, makes, PoppedRow, PoppedSlot, poppedType, popped-vals, popped-tells, queue-in, node-in, popped-is, popped-typed, popped-makes}
 use Rattle.queue.proofs.Thin.{local, slice-again, opened, told, last-slice, gone, meets-by}
 
 -- the code of f and of h, over the key of what each calls
@@ -28,12 +26,12 @@ thin k = record {
   lifetimes = 4;
   outlives = [];
   params = 4;
-  locals = lo (tyInt w32) valueLocal ∷ lo (tyRef (named 0) mut (pointee (Queue .written))) valueLocal ∷ passed 1 (lo R′.mir valueLocal ∷ lo T′.mir valueLocal ∷ anew []);
+  locals = lo (tyInt w32) valueLocal ∷ lo (tyRef (named 0) mut (pointee (Queue .written))) valueLocal ∷ passed 1 (lo poppedType valueLocal ∷ lo queueType valueLocal ∷ anew []);
   body =
-      seq (assign (place 6 []) (rvOpd (copy (place 1 (deref T′.mir ∷ [])))))
+      seq (assign (place 6 []) (rvOpd (copy (place 1 (deref queueType ∷ [])))))
       (allMade 7
       (seq (call k (copy (place 6 []) ∷ copy (place 8 []) ∷ copy (place 10 []) ∷ copy (place 12 []) ∷ []) (place 5 []))
-      (seq (assign (place 1 (deref T′.mir ∷ [])) (rvOpd (copy (place 5 (field 0 ∷ [])))))
+      (seq (assign (place 1 (deref queueType ∷ [])) (rvOpd (copy (place 5 (field 0 ∷ [])))))
       (seq (assign (place 0 []) (rvOpd (copy (place 5 (field 1 ∷ [])))))
       return))));
 }
@@ -43,7 +41,7 @@ holding k = record {
   lifetimes = 3;
   outlives = [];
   params = 4;
-  locals = lo R′.mir valueLocal ∷ lo T′.mir valueLocal ∷ passed 0 (lo T′.mir memorySlot ∷ lo (tyInt w32) valueLocal ∷ lo (tyRef erased mut (pointee (Queue .written))) valueLocal ∷ anew (lo T′.mir valueLocal ∷ []));
+  locals = lo poppedType valueLocal ∷ lo queueType valueLocal ∷ passed 0 (lo queueType memorySlot ∷ lo (tyInt w32) valueLocal ∷ lo (tyRef erased mut (pointee (Queue .written))) valueLocal ∷ anew (lo queueType valueLocal ∷ []));
   body =
       seq (assign (place 5 []) (rvOpd (copy (place 1 []))))
       (seq (assign (place 7 []) (addrOf (place 5 [])))
@@ -56,10 +54,10 @@ holding k = record {
 
 -- the two signatures
 abbrev pub value : Ended
-value = record { signature = record { lifetimes = 3; outlives = []; params = QueueS ∷ slotsByValue []; result = PopS }; kept = (yes, (yes, (yes, (yes, tt)))) }
+value = record { signature = record { lifetimes = 3; outlives = []; params = QueueSlot ∷ slotsByValue []; result = PoppedSlot }; kept = (yes, (yes, (yes, (yes, tt)))) }
 
 abbrev pub lent : Ended
-lent = record { signature = record { lifetimes = 4; outlives = []; params = RefMutOf (0 ∷ []) tt QueueS (λ κs. tt) ∷ slotsLent []; result = plain (λ κs. u32) }; kept = (yes, (yes, (yes, (yes, tt)))) }
+lent = record { signature = record { lifetimes = 4; outlives = []; params = RefMutOf (0 ∷ []) tt QueueSlot (λ κs. tt) ∷ slotsLent []; result = plain (λ κs. u32) }; kept = (yes, (yes, (yes, (yes, tt)))) }
 
 module _ {M : Type 1} (𝓤 : URA M) where
   abbrev pub thinned : Clauses 𝓤 value → Clauses 𝓤 lent
@@ -74,7 +72,7 @@ module _ {M : Type 1} (𝓤 : URA M) where
 
 -- what is had of the parameters at exit
 abbrev stayed : Stays (lent .signature .params) (lent .kept)
-stayed = (stay-ref (0 ∷ []) tt QueueS, gaveLent [] tt tt)
+stayed = (stay-ref (0 ∷ []) tt QueueSlot, gaveLent [] tt tt)
 
 abbrev kept : Stays (value .signature .params) (value .kept)
 kept = (stay-none (λ _. Queue) yes, gaveByValue [] tt tt)
@@ -138,10 +136,10 @@ module _ {M : Type 1} (𝓤 : URA M) (H : Heap 𝓤) (A : Atoms 𝓤) (W : Given
           told ! tt value c to-value v (λ r zs. use1 W (tokens 𝓤 κ₁ κ₂ κ₃ q₁ q₂ q₃) (id⊢ 𝓤 _) $ move ! (0 ∷ 3 ∷ []) $ join ! $
           -- [the buffers' tokens and what g ensures; what the result owns; what is said of last lists; the record's cell; the open borrow; obs; auth; _12; …; _1; …; room for _0; …]
           move ! (2 ∷ []) $ fsplit ! $ drop ! $ last-slice ! (λ e₁. move ! (1 ∷ []) $ last-slice ! (λ e₂. move ! (1 ∷ []) $ last-slice ! (λ e₃.
-          move ! (5 ∷ []) $ peeks ! Pop (Is Pop) (shows 𝓤 H A Pop) r (v ∷ []) (λ is.
+          move ! (5 ∷ []) $ peeks ! PoppedRow (Is PoppedRow) (shows 𝓤 H A PoppedRow) r (v ∷ []) (λ is.
           -- [what the result owns; marks' last list; …; nodes'; priorities'; the tokens and what g ensures; the record's cell; the open borrow; obs; auth; _12; …; _1; …; room for _0; …]
-          land ! (from ! (stop !)) (init ! 24 refl (pop-typed 𝓤 H A W r is)) $
-          rewrite ! 24 (λ (u : Val). ‵ (fat fullShare R′.mir l₅ 0 u)) (ap only (pop-tells r _ is)) refl $
+          land ! (from ! (stop !)) (init ! 24 refl (popped-typed 𝓤 H A W r is)) $
+          rewrite ! 24 (λ (u : Val). ‵ (fat fullShare poppedType l₅ 0 u)) (ap only (popped-tells r _ is)) refl $
           drop ! $ owned ! Queue (Is Queue) (makes 𝓤 H A W) (r .queue) _ (queue-in r is) $
           assigns ! (of-opd ! (load ! (from ! (fld ! refl (stop !))) (look-in ! 24 (sub ! 0 refl (whole !))))) (from ! (hop ! (look ! 32 refl) (stop !))) (store-raw ! 6 refl (typed 𝓤 H A W (r .queue) (queue-in r is))) $
           assigns ! (of-opd ! (load ! (from ! (fld ! refl (stop !))) (look-in ! 24 (sub ! 1 refl (whole !))))) (from ! (stop !)) (init ! 34 refl (tt, record { fits = node-in r is })) $
@@ -150,21 +148,18 @@ module _ {M : Type 1} (𝓤 : URA M) (H : Heap 𝓤) (A : Atoms 𝓤) (W : Given
           keep ! (0 ∷ 1 ∷ 2 ∷ 7 ∷ 6 ∷ 5 ∷ 3 ∷ []) $ by ! (exits r (node-in r is) zs e₁ e₂ e₃)))))))))))))))))))))
 
     -- ---- the function that holds the record in a local
-    abbrev mach : WorkQueue → Val
-    mach r = only (vals r)
-
     abbrev HeldPost : Val → SProp 𝓤
-    HeldPost = walkOf 𝓤 H A value kept c .post ((κs, (q₁, (q₂, (q₃, tt))), tt, (h, beside), (mach h ∷ [], at)), g)
+    HeldPost = walkOf 𝓤 H A value kept c .post ((κs, (q₁, (q₂, (q₃, tt))), tt, (h, beside), (spelled h ∷ [], at)), g)
 
-    exits-held : Is Queue h (mach h ∷ []) → (r : Popped) → Is Pop r (pop-vals r) → (zs : Lasts value κs (h, beside)) → length (zs .1 .0) ≡ length (x₁ .now) → length (zs .1 .1 .0) ≡ length (x₂ .now) → length (zs .1 .1 .1 .0) ≡ length (x₃ .now)
-        → ent 𝓤 (⋆ 𝓤 H A (said r zs ∷ ‵ (finally f64 (x₁ .name) (zs .1 .0)) ∷ ‵ (finally u32 (x₂ .name) (zs .1 .1 .0)) ∷ ‵ (finally u64 (x₃ .name) (zs .1 .1 .1 .0)) ∷ [])) (HeldPost (only (pop-vals r)))
+    exits-held : Is Queue h (spelled h ∷ []) → (r : Popped) → Is PoppedRow r (popped-vals r) → (zs : Lasts value κs (h, beside)) → length (zs .1 .0) ≡ length (x₁ .now) → length (zs .1 .1 .0) ≡ length (x₂ .now) → length (zs .1 .1 .1 .0) ≡ length (x₃ .now)
+        → ent 𝓤 (⋆ 𝓤 H A (said r zs ∷ ‵ (finally f64 (x₁ .name) (zs .1 .0)) ∷ ‵ (finally u32 (x₂ .name) (zs .1 .1 .0)) ∷ ‵ (finally u64 (x₃ .name) (zs .1 .1 .1 .0)) ∷ [])) (HeldPost (only (popped-vals r)))
     exits-held was r is zs e₁ e₂ e₃ =
         qed W (said r zs ∷ ‵ (finally f64 (x₁ .name) (zs .1 .0)) ∷ ‵ (finally u32 (x₂ .name) (zs .1 .1 .0)) ∷ ‵ (finally u64 (x₃ .name) (zs .1 .1 .1 .0)) ∷ []) ∵
-        suffices ! _ (ends-at 𝓤 H A value kept c W ((κs, (q₁, (q₂, (q₃, tt))), tt, (h, beside), (mach h ∷ [], at)), g) (only (pop-vals r)) r zs (tt, (e₁, (e₂, (e₃, tt))))) $
+        suffices ! _ (ends-at 𝓤 H A value kept c W ((κs, (q₁, (q₂, (q₃, tt))), tt, (h, beside), (spelled h ∷ [], at)), g) (only (popped-vals r)) r zs (tt, (e₁, (e₂, (e₃, tt))))) $
         split ! $ move ! (2 ∷ 3 ∷ 4 ∷ []) $
         -- [the last lists; the tokens; what is said]
         nothing ! $ move ! (3 ∷ 0 ∷ []) $ fjoin ! $ move ! (2 ∷ 0 ∷ []) $ fjoin ! $ move ! (1 ∷ 0 ∷ []) $ fjoin ! $ owned ! Queue (Is Queue) (makes 𝓤 H A W) h _ was $ fjoin ! $
-        owned ! Pop (Is Pop) (pop-makes 𝓤 H A W) r _ is $ move ! (1 ∷ 0 ∷ []) $ join ! $ move ! (1 ∷ 0 ∷ []) $ join ! $ done !
+        owned ! PoppedRow (Is PoppedRow) (popped-makes 𝓤 H A W) r _ is $ move ! (1 ∷ 0 ∷ []) $ join ! $ move ! (1 ∷ 0 ∷ []) $ join ! $ done !
 
     -- what f's triple binds outside: the local at block l, lent for the lifetime ν under the name γ
     abbrev ref : ℕ → GName → RefT WorkQueue
@@ -176,10 +171,10 @@ module _ {M : Type 1} (𝓤 : URA M) (H : Heap 𝓤) (A : Atoms 𝓤) (W : Given
     abbrev passed-on : List RattleType
     passed-on = MutSlice (named 0) κ₁ f64 ∷ MutSlice (named 1) κ₂ u32 ∷ MutSlice (named 2) κ₃ u64 ∷ []
 
-    walk-held : (C : Calls 𝓤 H) (Λ : Loops 𝓤 H) → FmC 𝓤 H (W .laws) C → (k : Name) → Triple 𝓤 (C k) (Thin 𝓤 H A c) → Is Queue h (mach h ∷ []) → Room f64 (length (x₁ .now)) → Room u32 (length (x₂ .now)) → Room u64 (length (x₃ .now))
-        → ent 𝓤 (sep 𝓤 (onEntry 𝓤 H A (value .signature) κs (q₁, (q₂, (q₃, tt))) (h, beside) (mach h ∷ [], at)) (c κs (h, beside) .requires g)) (WpFn 𝓤 H C Λ (holding k) (mach h ∷ machine x₁ ∷ machine x₂ ∷ machine x₃ ∷ []) HeldPost)
+    walk-held : (C : Calls 𝓤 H) (Λ : Loops 𝓤 H) → FmC 𝓤 H (W .laws) C → (k : Name) → Triple 𝓤 (C k) (Thin 𝓤 H A c) → Is Queue h (spelled h ∷ []) → Room f64 (length (x₁ .now)) → Room u32 (length (x₂ .now)) → Room u64 (length (x₃ .now))
+        → ent 𝓤 (sep 𝓤 (onEntry 𝓤 H A (value .signature) κs (q₁, (q₂, (q₃, tt))) (h, beside) (spelled h ∷ [], at)) (c κs (h, beside) .requires g)) (WpFn 𝓤 H C Λ (holding k) (spelled h ∷ machine x₁ ∷ machine x₂ ∷ machine x₃ ∷ []) HeldPost)
     walk-held C Λ fm k known was room₁ room₂ room₃ =
-        qed W ((tokens 𝓤 κ₁ κ₂ κ₃ q₁ q₂ q₃ ⊛ ‵ (owns (Queue ∷ passed-on) (h, beside) (mach h ∷ [], at))) ∷ raw (c κs (h, beside) .requires g) ∷ []) ∵ split ! $ enter ! C Λ (holding k) (mach h ∷ machine x₁ ∷ machine x₂ ∷ machine x₃ ∷ []) _ $
+        qed W ((tokens 𝓤 κ₁ κ₂ κ₃ q₁ q₂ q₃ ⊛ ‵ (owns (Queue ∷ passed-on) (h, beside) (spelled h ∷ [], at))) ∷ raw (c κs (h, beside) .requires g) ∷ []) ∵ split ! $ enter ! C Λ (holding k) (spelled h ∷ machine x₁ ∷ machine x₂ ∷ machine x₃ ∷ []) _ $
         alloc1 ! (λ l₀. alloc1 ! (λ l₁. alloc1 ! (λ l₂. alloc1 ! (λ l₃. alloc1 ! (λ l₄. alloc1 ! (λ l₅. alloc1 ! (λ l₆. alloc1 ! (λ l₇. alloc1 ! (λ l₈. alloc1 ! (λ l₉. alloc1 ! (λ l₁₀. alloc1 ! (λ l₁₁. alloc1 ! (λ l₁₂. alloc1 ! (λ l₁₃. alloc1 ! (λ l₁₄. alloc0 ! $ params1 ! $
         pass1 ! (init ! 26 refl (typed 𝓤 H A W h was)) $ pass1 ! (init ! 24 refl (tt, (tt, (record { fits = room₁ .0 }, tt)))) $ pass1 ! (init ! 22 refl (tt, (tt, (record { fits = room₂ .0 }, tt)))) $ pass1 ! (init ! 20 refl (tt, (tt, (record { fits = room₃ .0 }, tt)))) $ pass0 ! $ move ! (31 ∷ []) $ fsplit ! $
         -- [what the record owns; what the buffers own; _14; …; _1; …; room for _0; …; the buffers' tokens; what f requires]
@@ -189,7 +184,7 @@ module _ {M : Type 1} (𝓤 : URA M) (H : Heap 𝓤) (A : Atoms 𝓤) (W : Given
         slice-again ! 24 10 8 refl refl refl refl refl refl refl refl (room₂ .0) $
         slice-again ! 22 6 4 refl refl refl refl refl refl refl refl (room₃ .0) $
         -- the local is lent for a lifetime ν of the call
-        move ! (20 ∷ 0 ∷ []) $ use1 W (‵ (cellAt fullShare (Queue .mir) (vals h) l₅ 0)) (W .laws .at-raw fullShare T′.mir l₅ 0 (mach h)) $ lft-new ! tt (λ ν. move ! (1 ∷ 2 ∷ []) $ lends-local ! tt Queue (named 0) (ν ∷ []) h (vals h) l₅ 0 (λ γ.
+        move ! (20 ∷ 0 ∷ []) $ use1 W (‵ (cellAt fullShare (Queue .mir) (vals h) l₅ 0)) (W .laws .at-raw fullShare queueType l₅ 0 (spelled h)) $ lft-new ! tt (λ ν. move ! (1 ∷ 2 ∷ []) $ lends-local ! tt Queue (named 0) (ν ∷ []) h (vals h) l₅ 0 (λ γ.
         -- [the loan; the lender's part; ν's token; what the buffers own; _14; …, with no _5; the buffers' tokens; what f requires]
         move ! (2 ∷ 33 ∷ []) $ join ! $ move ! (1 ∷ 3 ∷ 0 ∷ 33 ∷ []) $ fjoin ! $ move ! (1 ∷ 0 ∷ []) $ join ! $ join ! $ use1 W (raw (Thin 𝓤 H A c .pre (to-thin l₅ ν γ))) (id⊢ 𝓤 _) $
         calls-at ! fm (Thin 𝓤 H A c) known (to-thin l₅ ν γ) (and-then ! (local ! 16 refl) (and-then ! (local ! 12 refl) (and-then ! (local ! 8 refl) (and-then ! (local ! 4 refl) (no-more !))))) (λ v.
@@ -202,18 +197,18 @@ module _ {M : Type 1} (𝓤 : URA M) (H : Heap 𝓤) (A : Atoms 𝓤) (W : Given
         rewrite ! 25 (λ (u : Val). ‵ (fat fullShare (tyInt w32) l₆ 0 u)) (ap only (node .0)) refl $ drop ! $
         -- the lifetime is ended, and the local comes back at that record
         move ! (6 ∷ []) $ lft-end ! tt $ move ! (0 ∷ 7 ∷ 5 ∷ []) $ local-back ! tt Queue vals tells (ν ∷ []) γ (zs .0) l₅ 0 (λ is.
-        use1 W (‵ (fat fullShare T′.mir l₅ 0 (mach (zs .0)))) (W .laws .raw-at fullShare T′.mir l₅ 0 (mach (zs .0))) $
+        use1 W (‵ (fat fullShare queueType l₅ 0 (spelled (zs .0)))) (W .laws .raw-at fullShare queueType l₅ 0 (spelled (zs .0))) $
         -- [_5; what the new record owns; marks' last list; …; nodes'; priorities'; the tokens and what f ensures; _14; …, with no _5]
         assigns ! (of-opd ! (local ! 0 refl)) (from ! (stop !)) (init ! 7 refl (typed 𝓤 H A W (zs .0) is)) $
-        assigns ! (agg ! (and-then ! (local ! 7 refl) (and-then ! (local ! 23 refl) (no-more !)))) (from ! (stop !)) (init ! 34 refl (pop-typed 𝓤 H A W (record { queue = zs .0; node = m }) (pop-is (record { queue = zs .0; node = m }) is (node .1)))) $
+        assigns ! (agg ! (and-then ! (local ! 7 refl) (and-then ! (local ! 23 refl) (no-more !)))) (from ! (stop !)) (init ! 34 refl (popped-typed 𝓤 H A W (record { queue = zs .0; node = m }) (popped-is (record { queue = zs .0; node = m }) is (node .1)))) $
         returns ! (look ! 34 refl) $ move ! (34 ∷ 35 ∷ []) $ gone ! $ move ! (32 ∷ 33 ∷ []) $ gone ! $ move ! (30 ∷ 31 ∷ []) $ gone ! $ move ! (28 ∷ 29 ∷ []) $ gone ! $ move ! (26 ∷ 27 ∷ []) $ gone ! $ move ! (0 ∷ 25 ∷ []) $ gone ! $ move ! (22 ∷ 23 ∷ []) $ gone ! $ move ! (20 ∷ 21 ∷ []) $ gone ! $ move ! (18 ∷ 19 ∷ []) $ gone ! $ move ! (16 ∷ 17 ∷ []) $ gone ! $ move ! (14 ∷ 15 ∷ []) $ gone ! $ move ! (12 ∷ 13 ∷ []) $ gone ! $ move ! (10 ∷ 11 ∷ []) $ gone ! $ move ! (8 ∷ 9 ∷ []) $ gone ! $ move ! (6 ∷ 7 ∷ []) $ gone ! $ free0 ! $
-        keep ! (5 ∷ 4 ∷ 3 ∷ 1 ∷ []) $ by ! (exits-held was (record { queue = zs .0; node = m }) (pop-is (record { queue = zs .0; node = m }) is (node .1)) (tt, zs .1) e₁ e₂ e₃)))))))))))))))))))))))))
+        keep ! (5 ∷ 4 ∷ 3 ∷ 1 ∷ []) $ by ! (exits-held was (record { queue = zs .0; node = m }) (popped-is (record { queue = zs .0; node = m }) is (node .1)) (tt, zs .1) e₁ e₂ e₃)))))))))))))))))))))))))
 
 module _ {M : Type 1} (𝓤 : URA M) (H : Heap 𝓤) (A : Atoms 𝓤) (W : Given 𝓤 H A) (c : Clauses 𝓤 value) (𝓣 : Tables 𝓤 H) (k : Name) where
   pub replaces : Triple 𝓤 (𝓣 .C k) (ByValue 𝓤 H A c) → Meets 𝓤 H A (lent .signature) (WpFn 𝓤 H (𝓣 .C) (𝓣 .Λ) (thin k)) (closing 𝓤 H A lent (thinned 𝓤 c))
   replaces known =
       meets-by 𝓤 H A W lent stayed
-      (goes-ref 𝓤 H A W 4 0 tt QueueS, (goes-gave-slice 𝓤 H A W 4 1 tt (plain (λ _. f64)), (goes-gave-slice 𝓤 H A W 4 2 tt (plain (λ _. u32)), (goes-gave-slice 𝓤 H A W 4 3 tt (plain (λ _. u64)), tt))))
+      (goes-ref 𝓤 H A W 4 0 tt QueueSlot, (goes-gave-slice 𝓤 H A W 4 1 tt (plain (λ _. f64)), (goes-gave-slice 𝓤 H A W 4 2 tt (plain (λ _. u32)), (goes-gave-slice 𝓤 H A W 4 3 tt (plain (λ _. u64)), tt))))
       (thinned 𝓤 c) 𝓣 (thin k)
       (λ κs. (ptr-vals, (slice-vals, (slice-vals, (slice-vals, tt)))))
       (λ κs. (mut-tells (named 0) (κs .0) Queue, (mut-slice-tells (named 1) (κs .1 .0) f64, (mut-slice-tells (named 2) (κs .1 .1 .0) u32, (mut-slice-tells (named 3) (κs .1 .1 .1 .0) u64, tt)))))
