@@ -1,6 +1,32 @@
-/* The public calls of the library. Link target/staticlib/libNAME.a of the crates named here; a call for which none is named
-   stands in the crate of its own name. A list is a pointer and its length. Every call tests its own input and returns a refusal number, 0 where it is done; docs/ENTRIES.md says what
-   each takes, gives and refuses. Lists that are lent to one call must not overlap. */
+/* The public calls of the library. include/check holds the names, the order and the types below to the Rattle source.
+
+   To link: target/staticlib/libNAME.a of the crate that a call stands in; where none is named here, that is the crate of the
+   call's own name. `rt staticlib NAME` writes it, and oracle/build writes them all. They are for x86-64.
+
+   Lists: a list is a pointer and its length. In what follows n is the number of nodes and m the number of listed links: the
+   length of `from`, or of `columns` where rows are given. The length that each list must have stands beside it, with what
+   it is for:
+     read       the call reads it and leaves it as it was
+     answer     a call that is done has written all of it
+     workspace  a call that is done leaves it all zero
+   What an answer or workspace holds before the call doesn't matter. Lists that are lent to one call must not overlap.
+
+   Links: `from`, `to` and `weight` have one place for each link. One that has an end that is not below n is dropped.
+   Rows: the links of node v are at the places starts[v] to starts[v + 1] - 1 of `columns` (where to) and `weights`.
+
+   Refusals: a call tests its input in the order of these numbers and returns the first that applies, with counts and scores of
+   zero and no list altered. 0 is done. Beside each call stands which numbers it can return.
+     1  more than 65,536 nodes
+     2  more than 1,048,576 links, or more than 65,536 sources or targets
+     3  a list has another length than stated
+     4  rows: starts don't begin at 0, fall somewhere or don't end at m, or a column is not below n
+     5  a weight, of a dropped link too, is a NaN, infinite, below zero or above 1,048,576
+     6  alpha is not in 0 to 1, epsilon or queue_threshold is not finite or below zero, or max_pushes is above 1,000,000,000
+     7  target_precision or source_precision is not finite or below zero
+   A source or target that is no node is no refusal: a solve from it leaves +0 everywhere with counts of 0, a query gives +0,
+   and in a list of sources or targets it is skipped and its share lost.
+
+   docs/ENTRIES.md says more of each call, and docs/RULES.md has the rules. */
 #ifndef TALWIGHEST_H
 #define TALWIGHEST_H
 
@@ -12,61 +38,10 @@
 extern "C" {
 #endif
 
-/* crate norm */
-
-double square_root(double x);
-
-/* crate graph_entries */
-
-struct Built {
-    uint32_t refusal;
-    uint32_t kept;
-};
-
-struct Built from_edges(uint32_t n,
-                        const uint32_t *from, size_t from_length,
-                        const uint32_t *to, size_t to_length,
-                        const double *weight, size_t weight_length,
-                        uint32_t *starts, size_t starts_length,
-                        uint32_t *columns, size_t columns_length,
-                        double *weights, size_t weights_length,
-                        uint32_t *positions, size_t positions_length);
-
-uint32_t from_matrix(uint32_t n,
-                     const uint32_t *starts, size_t starts_length,
-                     const uint32_t *columns, size_t columns_length,
-                     const double *weights, size_t weights_length,
-                     uint32_t *reverse_starts, size_t reverse_starts_length,
-                     uint32_t *reverse_columns, size_t reverse_columns_length,
-                     double *reverse_weights, size_t reverse_weights_length,
-                     double *degrees, size_t degrees_length,
-                     double *reverse_degrees, size_t reverse_degrees_length,
-                     uint32_t *positions, size_t positions_length);
-
-uint32_t transpose(uint32_t n,
-                   const uint32_t *starts, size_t starts_length,
-                   const uint32_t *columns, size_t columns_length,
-                   const double *weights, size_t weights_length,
-                   uint32_t *reverse_starts, size_t reverse_starts_length,
-                   uint32_t *reverse_columns, size_t reverse_columns_length,
-                   double *reverse_weights, size_t reverse_weights_length,
-                   uint32_t *positions, size_t positions_length);
-
-uint32_t row_sums(uint32_t n,
-                  const uint32_t *starts, size_t starts_length,
-                  const uint32_t *columns, size_t columns_length,
-                  const double *weights, size_t weights_length,
-                  double *degrees, size_t degrees_length);
-
-/* crate forward_push */
-
-uint32_t extrapolated_solution(const double *estimate, size_t estimate_length,
-                               const double *residual, size_t residual_length,
-                               double alpha,
-                               double *solution, size_t solution_length);
-
-/* the forward solver: estimate and residual are the answer, what follows them is workspace */
-
+/* The settings of a solve, which go by value; refusal 6 says what they may be. A node's priority is its residual over its
+   degree, or over 1 where the degree is less: at queue_threshold or above it enters the queue, and what is below epsilon when
+   it leaves the queue is skipped. adaptive_threshold lets the threshold rise and fall with the queue's size; max_pushes
+   ends the solve. */
 struct Settings {
     double alpha;
     double epsilon;
@@ -75,6 +50,7 @@ struct Settings {
     bool adaptive_threshold;
 };
 
+/* What a solve returns. residual_norm is the square root of the residual's squares, added from left to right. */
 struct Solved {
     uint32_t refusal;
     uint64_t push_count;
@@ -82,449 +58,615 @@ struct Solved {
     double residual_norm;
 };
 
+/* What a query returns. */
 struct Scored {
     uint32_t refusal;
     double score;
 };
 
-struct Solved solve_single_source_links(uint32_t n,
-                                        const uint32_t *from, size_t from_length,
-                                        const uint32_t *to, size_t to_length,
-                                        const double *weight, size_t weight_length,
-                                        uint32_t source,
-                                        struct Settings settings,
-                                        double *estimate, size_t estimate_length,
-                                        double *residual, size_t residual_length,
-                                        uint32_t *starts, size_t starts_length,
-                                        uint32_t *columns, size_t columns_length,
-                                        double *weights, size_t weights_length,
-                                        double *degrees, size_t degrees_length,
-                                        double *priorities, size_t priorities_length,
-                                        uint32_t *nodes, size_t nodes_length,
-                                        uint64_t *queued, size_t queued_length,
-                                        uint64_t *visited, size_t visited_length);
+/* What from_edges returns: how many links are kept. */
+struct Built {
+    uint32_t refusal;
+    uint32_t kept;
+};
 
-struct Solved solve_multi_source_links(uint32_t n,
-                                       const uint32_t *from, size_t from_length,
-                                       const uint32_t *to, size_t to_length,
-                                       const double *weight, size_t weight_length,
-                                       const uint32_t *sources, size_t sources_length,
-                                       struct Settings settings,
-                                       double *estimate, size_t estimate_length,
-                                       double *residual, size_t residual_length,
-                                       uint32_t *starts, size_t starts_length,
-                                       uint32_t *columns, size_t columns_length,
-                                       double *weights, size_t weights_length,
-                                       double *degrees, size_t degrees_length,
-                                       double *priorities, size_t priorities_length,
-                                       uint32_t *nodes, size_t nodes_length,
-                                       uint64_t *queued, size_t queued_length,
-                                       uint64_t *visited, size_t visited_length);
+/* ---- Square root and norm: crate norm ---- */
 
-struct Solved solve_with_target_links(uint32_t n,
-                                      const uint32_t *from, size_t from_length,
-                                      const uint32_t *to, size_t to_length,
-                                      const double *weight, size_t weight_length,
-                                      uint32_t source,
-                                      uint32_t target,
-                                      double target_precision,
-                                      struct Settings settings,
-                                      double *estimate, size_t estimate_length,
-                                      double *residual, size_t residual_length,
-                                      uint32_t *starts, size_t starts_length,
-                                      uint32_t *columns, size_t columns_length,
-                                      double *weights, size_t weights_length,
-                                      double *degrees, size_t degrees_length,
-                                      double *priorities, size_t priorities_length,
-                                      uint32_t *nodes, size_t nodes_length,
-                                      uint64_t *queued, size_t queued_length,
-                                      uint64_t *visited, size_t visited_length);
+/* IEEE 754's square root: a NaN for a NaN and below zero, a zero and +infinity themselves, else the nearest number.
+   Refuses nothing. */
+double square_root(double x);
 
-struct Scored query_single_entry_links(uint32_t n,
-                                       const uint32_t *from, size_t from_length,
-                                       const uint32_t *to, size_t to_length,
-                                       const double *weight, size_t weight_length,
-                                       uint32_t source,
-                                       uint32_t target,
-                                       struct Settings settings,
-                                       double *estimate, size_t estimate_length,
-                                       double *residual, size_t residual_length,
-                                       uint32_t *starts, size_t starts_length,
-                                       uint32_t *columns, size_t columns_length,
-                                       double *weights, size_t weights_length,
-                                       double *degrees, size_t degrees_length,
-                                       double *priorities, size_t priorities_length,
-                                       uint32_t *nodes, size_t nodes_length,
-                                       uint64_t *queued, size_t queued_length,
-                                       uint64_t *visited, size_t visited_length);
+/* The square root of the squares, added from left to right from +0; +0 of nothing. n is any number.
+   Refuses nothing. */
+double compute_residual_norm(
+    const double *residual, size_t residual_length              /* n; read */
+);
 
-struct Solved solve_single_source_rows(uint32_t n,
-                                       const uint32_t *starts, size_t starts_length,
-                                       const uint32_t *columns, size_t columns_length,
-                                       const double *weights, size_t weights_length,
-                                       uint32_t source,
-                                       struct Settings settings,
-                                       double *estimate, size_t estimate_length,
-                                       double *residual, size_t residual_length,
-                                       double *degrees, size_t degrees_length,
-                                       double *priorities, size_t priorities_length,
-                                       uint32_t *nodes, size_t nodes_length,
-                                       uint64_t *queued, size_t queued_length,
-                                       uint64_t *visited, size_t visited_length);
+/* ---- The graph store: crate graph_entries ---- */
 
-struct Solved solve_multi_source_rows(uint32_t n,
-                                      const uint32_t *starts, size_t starts_length,
-                                      const uint32_t *columns, size_t columns_length,
-                                      const double *weights, size_t weights_length,
-                                      const uint32_t *sources, size_t sources_length,
-                                      struct Settings settings,
-                                      double *estimate, size_t estimate_length,
-                                      double *residual, size_t residual_length,
-                                      double *degrees, size_t degrees_length,
-                                      double *priorities, size_t priorities_length,
-                                      uint32_t *nodes, size_t nodes_length,
-                                      uint64_t *queued, size_t queued_length,
-                                      uint64_t *visited, size_t visited_length);
+/* The rows of a list of links, each row in the order of the list. Past the kept links `columns` and `weights` are 0: hand them
+   on cut to the kept count. Refuses with 1, 2, 3 and 5. */
+struct Built from_edges(
+    uint32_t n,
+    const uint32_t *from, size_t from_length,                   /* m; read */
+    const uint32_t *to, size_t to_length,                       /* m; read */
+    const double *weight, size_t weight_length,                 /* m; read */
+    uint32_t *starts, size_t starts_length,                     /* n + 1; answer */
+    uint32_t *columns, size_t columns_length,                   /* m; answer */
+    double *weights, size_t weights_length,                     /* m; answer */
+    uint32_t *positions, size_t positions_length                /* n; workspace */
+);
 
-struct Solved solve_with_target_rows(uint32_t n,
-                                     const uint32_t *starts, size_t starts_length,
-                                     const uint32_t *columns, size_t columns_length,
-                                     const double *weights, size_t weights_length,
-                                     uint32_t source,
-                                     uint32_t target,
-                                     double target_precision,
-                                     struct Settings settings,
-                                     double *estimate, size_t estimate_length,
-                                     double *residual, size_t residual_length,
-                                     double *degrees, size_t degrees_length,
-                                     double *priorities, size_t priorities_length,
-                                     uint32_t *nodes, size_t nodes_length,
-                                     uint64_t *queued, size_t queued_length,
-                                     uint64_t *visited, size_t visited_length);
+/* The transposed rows of rows, and the degrees of both: the weights of each row, added from left to right from +0.
+   Refuses with 1 to 5. */
+uint32_t from_matrix(
+    uint32_t n,
+    const uint32_t *starts, size_t starts_length,               /* n + 1; read */
+    const uint32_t *columns, size_t columns_length,             /* m; read */
+    const double *weights, size_t weights_length,               /* m; read */
+    uint32_t *reverse_starts, size_t reverse_starts_length,     /* n + 1; answer */
+    uint32_t *reverse_columns, size_t reverse_columns_length,   /* m; answer */
+    double *reverse_weights, size_t reverse_weights_length,     /* m; answer */
+    double *degrees, size_t degrees_length,                     /* n; answer */
+    double *reverse_degrees, size_t reverse_degrees_length,     /* n; answer */
+    uint32_t *positions, size_t positions_length                /* n; workspace */
+);
 
-struct Scored query_single_entry_rows(uint32_t n,
-                                      const uint32_t *starts, size_t starts_length,
-                                      const uint32_t *columns, size_t columns_length,
-                                      const double *weights, size_t weights_length,
-                                      uint32_t source,
-                                      uint32_t target,
-                                      struct Settings settings,
-                                      double *estimate, size_t estimate_length,
-                                      double *residual, size_t residual_length,
-                                      double *degrees, size_t degrees_length,
-                                      double *priorities, size_t priorities_length,
-                                      uint32_t *nodes, size_t nodes_length,
-                                      uint64_t *queued, size_t queued_length,
-                                      uint64_t *visited, size_t visited_length);
+/* The transposed rows alone, by rising row and inside it in row order. Refuses with 1 to 5. */
+uint32_t transpose(
+    uint32_t n,
+    const uint32_t *starts, size_t starts_length,               /* n + 1; read */
+    const uint32_t *columns, size_t columns_length,             /* m; read */
+    const double *weights, size_t weights_length,               /* m; read */
+    uint32_t *reverse_starts, size_t reverse_starts_length,     /* n + 1; answer */
+    uint32_t *reverse_columns, size_t reverse_columns_length,   /* m; answer */
+    double *reverse_weights, size_t reverse_weights_length,     /* m; answer */
+    uint32_t *positions, size_t positions_length                /* n; workspace */
+);
 
-/* the backward solver: estimate, residual and solution are the answer, what follows them is workspace */
+/* The degrees alone. Refuses with 1 to 5. */
+uint32_t row_sums(
+    uint32_t n,
+    const uint32_t *starts, size_t starts_length,               /* n + 1; read */
+    const uint32_t *columns, size_t columns_length,             /* m; read */
+    const double *weights, size_t weights_length,               /* m; read */
+    double *degrees, size_t degrees_length                      /* n; answer */
+);
 
-struct Solved solve_single_target_links(uint32_t n,
-                                        const uint32_t *from, size_t from_length,
-                                        const uint32_t *to, size_t to_length,
-                                        const double *weight, size_t weight_length,
-                                        uint32_t target,
-                                        struct Settings settings,
-                                        double *estimate, size_t estimate_length,
-                                        double *residual, size_t residual_length,
-                                        uint32_t *starts, size_t starts_length,
-                                        uint32_t *columns, size_t columns_length,
-                                        double *weights, size_t weights_length,
-                                        uint32_t *reverse_starts, size_t reverse_starts_length,
-                                        uint32_t *reverse_columns, size_t reverse_columns_length,
-                                        double *reverse_weights, size_t reverse_weights_length,
-                                        double *in_degrees, size_t in_degrees_length,
-                                        double *out_degrees, size_t out_degrees_length,
-                                        double *priorities, size_t priorities_length,
-                                        uint32_t *nodes, size_t nodes_length,
-                                        uint64_t *queued, size_t queued_length,
-                                        uint64_t *visited, size_t visited_length);
+/* ---- Forward: scores from sources ----
+   `estimate` gets the scores and `residual` what is not handed out yet. */
 
-struct Solved solve_multi_target_links(uint32_t n,
-                                       const uint32_t *from, size_t from_length,
-                                       const uint32_t *to, size_t to_length,
-                                       const double *weight, size_t weight_length,
-                                       const uint32_t *targets, size_t targets_length,
-                                       struct Settings settings,
-                                       double *estimate, size_t estimate_length,
-                                       double *residual, size_t residual_length,
-                                       uint32_t *starts, size_t starts_length,
-                                       uint32_t *columns, size_t columns_length,
-                                       double *weights, size_t weights_length,
-                                       uint32_t *reverse_starts, size_t reverse_starts_length,
-                                       uint32_t *reverse_columns, size_t reverse_columns_length,
-                                       double *reverse_weights, size_t reverse_weights_length,
-                                       double *in_degrees, size_t in_degrees_length,
-                                       double *out_degrees, size_t out_degrees_length,
-                                       double *priorities, size_t priorities_length,
-                                       uint32_t *nodes, size_t nodes_length,
-                                       uint64_t *queued, size_t queued_length,
-                                       uint64_t *visited, size_t visited_length);
+/* From one source.
+   Refuses with 1, 2, 3, 5 and 6. */
+struct Solved solve_single_source_links(
+    uint32_t n,
+    const uint32_t *from, size_t from_length,                   /* m; read */
+    const uint32_t *to, size_t to_length,                       /* m; read */
+    const double *weight, size_t weight_length,                 /* m; read */
+    uint32_t source,
+    struct Settings settings,
+    double *estimate, size_t estimate_length,                   /* n; answer */
+    double *residual, size_t residual_length,                   /* n; answer */
+    uint32_t *starts, size_t starts_length,                     /* n + 1; workspace */
+    uint32_t *columns, size_t columns_length,                   /* m; workspace */
+    double *weights, size_t weights_length,                     /* m; workspace */
+    double *degrees, size_t degrees_length,                     /* n; workspace */
+    double *priorities, size_t priorities_length,               /* n; workspace */
+    uint32_t *nodes, size_t nodes_length,                       /* n; workspace */
+    uint64_t *queued, size_t queued_length,                     /* (n + 63) / 64; workspace */
+    uint64_t *visited, size_t visited_length                    /* (n + 63) / 64; workspace */
+);
 
-struct Solved solve_with_source_links(uint32_t n,
-                                      const uint32_t *from, size_t from_length,
-                                      const uint32_t *to, size_t to_length,
-                                      const double *weight, size_t weight_length,
-                                      uint32_t source,
-                                      uint32_t target,
-                                      double source_precision,
-                                      struct Settings settings,
-                                      double *estimate, size_t estimate_length,
-                                      double *residual, size_t residual_length,
-                                      uint32_t *starts, size_t starts_length,
-                                      uint32_t *columns, size_t columns_length,
-                                      double *weights, size_t weights_length,
-                                      uint32_t *reverse_starts, size_t reverse_starts_length,
-                                      uint32_t *reverse_columns, size_t reverse_columns_length,
-                                      double *reverse_weights, size_t reverse_weights_length,
-                                      double *in_degrees, size_t in_degrees_length,
-                                      double *out_degrees, size_t out_degrees_length,
-                                      double *priorities, size_t priorities_length,
-                                      uint32_t *nodes, size_t nodes_length,
-                                      uint64_t *queued, size_t queued_length,
-                                      uint64_t *visited, size_t visited_length);
+/* The same of rows. Refuses with 1 to 6. */
+struct Solved solve_single_source_rows(
+    uint32_t n,
+    const uint32_t *starts, size_t starts_length,               /* n + 1; read */
+    const uint32_t *columns, size_t columns_length,             /* m; read */
+    const double *weights, size_t weights_length,               /* m; read */
+    uint32_t source,
+    struct Settings settings,
+    double *estimate, size_t estimate_length,                   /* n; answer */
+    double *residual, size_t residual_length,                   /* n; answer */
+    double *degrees, size_t degrees_length,                     /* n; workspace */
+    double *priorities, size_t priorities_length,               /* n; workspace */
+    uint32_t *nodes, size_t nodes_length,                       /* n; workspace */
+    uint64_t *queued, size_t queued_length,                     /* (n + 63) / 64; workspace */
+    uint64_t *visited, size_t visited_length                    /* (n + 63) / 64; workspace */
+);
 
-struct Scored query_transition_probability_links(uint32_t n,
-                                                 const uint32_t *from, size_t from_length,
-                                                 const uint32_t *to, size_t to_length,
-                                                 const double *weight, size_t weight_length,
-                                                 uint32_t source,
-                                                 uint32_t target,
-                                                 struct Settings settings,
-                                                 double *estimate, size_t estimate_length,
-                                                 double *residual, size_t residual_length,
-                                                 uint32_t *starts, size_t starts_length,
-                                                 uint32_t *columns, size_t columns_length,
-                                                 double *weights, size_t weights_length,
-                                                 uint32_t *reverse_starts, size_t reverse_starts_length,
-                                                 uint32_t *reverse_columns, size_t reverse_columns_length,
-                                                 double *reverse_weights, size_t reverse_weights_length,
-                                                 double *in_degrees, size_t in_degrees_length,
-                                                 double *out_degrees, size_t out_degrees_length,
-                                                 double *priorities, size_t priorities_length,
-                                                 uint32_t *nodes, size_t nodes_length,
-                                                 uint64_t *queued, size_t queued_length,
-                                                 uint64_t *visited, size_t visited_length);
+/* From a list of sources, each entry with mass 1 / sources_length.
+   Refuses with 1, 2, 3, 5 and 6. */
+struct Solved solve_multi_source_links(
+    uint32_t n,
+    const uint32_t *from, size_t from_length,                   /* m; read */
+    const uint32_t *to, size_t to_length,                       /* m; read */
+    const double *weight, size_t weight_length,                 /* m; read */
+    const uint32_t *sources, size_t sources_length,             /* any length up to 65,536; read */
+    struct Settings settings,
+    double *estimate, size_t estimate_length,                   /* n; answer */
+    double *residual, size_t residual_length,                   /* n; answer */
+    uint32_t *starts, size_t starts_length,                     /* n + 1; workspace */
+    uint32_t *columns, size_t columns_length,                   /* m; workspace */
+    double *weights, size_t weights_length,                     /* m; workspace */
+    double *degrees, size_t degrees_length,                     /* n; workspace */
+    double *priorities, size_t priorities_length,               /* n; workspace */
+    uint32_t *nodes, size_t nodes_length,                       /* n; workspace */
+    uint64_t *queued, size_t queued_length,                     /* (n + 63) / 64; workspace */
+    uint64_t *visited, size_t visited_length                    /* (n + 63) / 64; workspace */
+);
 
-uint32_t reachability_probabilities_links(uint32_t n,
-                                          const uint32_t *from, size_t from_length,
-                                          const uint32_t *to, size_t to_length,
-                                          const double *weight, size_t weight_length,
-                                          uint32_t target,
-                                          struct Settings settings,
-                                          double *estimate, size_t estimate_length,
-                                          double *residual, size_t residual_length,
-                                          double *solution, size_t solution_length,
-                                          uint32_t *starts, size_t starts_length,
-                                          uint32_t *columns, size_t columns_length,
-                                          double *weights, size_t weights_length,
-                                          uint32_t *reverse_starts, size_t reverse_starts_length,
-                                          uint32_t *reverse_columns, size_t reverse_columns_length,
-                                          double *reverse_weights, size_t reverse_weights_length,
-                                          double *in_degrees, size_t in_degrees_length,
-                                          double *out_degrees, size_t out_degrees_length,
-                                          double *priorities, size_t priorities_length,
-                                          uint32_t *nodes, size_t nodes_length,
-                                          uint64_t *queued, size_t queued_length,
-                                          uint64_t *visited, size_t visited_length);
+/* The same of rows. Refuses with 1 to 6. */
+struct Solved solve_multi_source_rows(
+    uint32_t n,
+    const uint32_t *starts, size_t starts_length,               /* n + 1; read */
+    const uint32_t *columns, size_t columns_length,             /* m; read */
+    const double *weights, size_t weights_length,               /* m; read */
+    const uint32_t *sources, size_t sources_length,             /* any length up to 65,536; read */
+    struct Settings settings,
+    double *estimate, size_t estimate_length,                   /* n; answer */
+    double *residual, size_t residual_length,                   /* n; answer */
+    double *degrees, size_t degrees_length,                     /* n; workspace */
+    double *priorities, size_t priorities_length,               /* n; workspace */
+    uint32_t *nodes, size_t nodes_length,                       /* n; workspace */
+    uint64_t *queued, size_t queued_length,                     /* (n + 63) / 64; workspace */
+    uint64_t *visited, size_t visited_length                    /* (n + 63) / 64; workspace */
+);
 
-struct Solved solve_single_target_rows(uint32_t n,
-                                       const uint32_t *starts, size_t starts_length,
-                                       const uint32_t *columns, size_t columns_length,
-                                       const double *weights, size_t weights_length,
-                                       uint32_t target,
-                                       struct Settings settings,
-                                       double *estimate, size_t estimate_length,
-                                       double *residual, size_t residual_length,
-                                       uint32_t *reverse_starts, size_t reverse_starts_length,
-                                       uint32_t *reverse_columns, size_t reverse_columns_length,
-                                       double *reverse_weights, size_t reverse_weights_length,
-                                       double *in_degrees, size_t in_degrees_length,
-                                       double *out_degrees, size_t out_degrees_length,
-                                       double *priorities, size_t priorities_length,
-                                       uint32_t *nodes, size_t nodes_length,
-                                       uint64_t *queued, size_t queued_length,
-                                       uint64_t *visited, size_t visited_length);
+/* From one source, until the target's estimate is above target_precision and its residual below a tenth of that. Nothing is
+   pushed where the target is no node.
+   Refuses with 1, 2, 3, 5, 6 and 7. */
+struct Solved solve_with_target_links(
+    uint32_t n,
+    const uint32_t *from, size_t from_length,                   /* m; read */
+    const uint32_t *to, size_t to_length,                       /* m; read */
+    const double *weight, size_t weight_length,                 /* m; read */
+    uint32_t source,
+    uint32_t target,
+    double target_precision,
+    struct Settings settings,
+    double *estimate, size_t estimate_length,                   /* n; answer */
+    double *residual, size_t residual_length,                   /* n; answer */
+    uint32_t *starts, size_t starts_length,                     /* n + 1; workspace */
+    uint32_t *columns, size_t columns_length,                   /* m; workspace */
+    double *weights, size_t weights_length,                     /* m; workspace */
+    double *degrees, size_t degrees_length,                     /* n; workspace */
+    double *priorities, size_t priorities_length,               /* n; workspace */
+    uint32_t *nodes, size_t nodes_length,                       /* n; workspace */
+    uint64_t *queued, size_t queued_length,                     /* (n + 63) / 64; workspace */
+    uint64_t *visited, size_t visited_length                    /* (n + 63) / 64; workspace */
+);
 
-struct Solved solve_multi_target_rows(uint32_t n,
-                                      const uint32_t *starts, size_t starts_length,
-                                      const uint32_t *columns, size_t columns_length,
-                                      const double *weights, size_t weights_length,
-                                      const uint32_t *targets, size_t targets_length,
-                                      struct Settings settings,
-                                      double *estimate, size_t estimate_length,
-                                      double *residual, size_t residual_length,
-                                      uint32_t *reverse_starts, size_t reverse_starts_length,
-                                      uint32_t *reverse_columns, size_t reverse_columns_length,
-                                      double *reverse_weights, size_t reverse_weights_length,
-                                      double *in_degrees, size_t in_degrees_length,
-                                      double *out_degrees, size_t out_degrees_length,
-                                      double *priorities, size_t priorities_length,
-                                      uint32_t *nodes, size_t nodes_length,
-                                      uint64_t *queued, size_t queued_length,
-                                      uint64_t *visited, size_t visited_length);
+/* The same of rows. Refuses with 1 to 7. */
+struct Solved solve_with_target_rows(
+    uint32_t n,
+    const uint32_t *starts, size_t starts_length,               /* n + 1; read */
+    const uint32_t *columns, size_t columns_length,             /* m; read */
+    const double *weights, size_t weights_length,               /* m; read */
+    uint32_t source,
+    uint32_t target,
+    double target_precision,
+    struct Settings settings,
+    double *estimate, size_t estimate_length,                   /* n; answer */
+    double *residual, size_t residual_length,                   /* n; answer */
+    double *degrees, size_t degrees_length,                     /* n; workspace */
+    double *priorities, size_t priorities_length,               /* n; workspace */
+    uint32_t *nodes, size_t nodes_length,                       /* n; workspace */
+    uint64_t *queued, size_t queued_length,                     /* (n + 63) / 64; workspace */
+    uint64_t *visited, size_t visited_length                    /* (n + 63) / 64; workspace */
+);
 
-struct Solved solve_with_source_rows(uint32_t n,
-                                     const uint32_t *starts, size_t starts_length,
-                                     const uint32_t *columns, size_t columns_length,
-                                     const double *weights, size_t weights_length,
-                                     uint32_t source,
-                                     uint32_t target,
-                                     double source_precision,
-                                     struct Settings settings,
-                                     double *estimate, size_t estimate_length,
-                                     double *residual, size_t residual_length,
-                                     uint32_t *reverse_starts, size_t reverse_starts_length,
-                                     uint32_t *reverse_columns, size_t reverse_columns_length,
-                                     double *reverse_weights, size_t reverse_weights_length,
-                                     double *in_degrees, size_t in_degrees_length,
-                                     double *out_degrees, size_t out_degrees_length,
-                                     double *priorities, size_t priorities_length,
-                                     uint32_t *nodes, size_t nodes_length,
-                                     uint64_t *queued, size_t queued_length,
-                                     uint64_t *visited, size_t visited_length);
+/* The target's score from one source; `estimate` and `residual` get what the solve gives.
+   Refuses with 1, 2, 3, 5 and 6. */
+struct Scored query_single_entry_links(
+    uint32_t n,
+    const uint32_t *from, size_t from_length,                   /* m; read */
+    const uint32_t *to, size_t to_length,                       /* m; read */
+    const double *weight, size_t weight_length,                 /* m; read */
+    uint32_t source,
+    uint32_t target,
+    struct Settings settings,
+    double *estimate, size_t estimate_length,                   /* n; answer */
+    double *residual, size_t residual_length,                   /* n; answer */
+    uint32_t *starts, size_t starts_length,                     /* n + 1; workspace */
+    uint32_t *columns, size_t columns_length,                   /* m; workspace */
+    double *weights, size_t weights_length,                     /* m; workspace */
+    double *degrees, size_t degrees_length,                     /* n; workspace */
+    double *priorities, size_t priorities_length,               /* n; workspace */
+    uint32_t *nodes, size_t nodes_length,                       /* n; workspace */
+    uint64_t *queued, size_t queued_length,                     /* (n + 63) / 64; workspace */
+    uint64_t *visited, size_t visited_length                    /* (n + 63) / 64; workspace */
+);
 
-struct Scored query_transition_probability_rows(uint32_t n,
-                                                const uint32_t *starts, size_t starts_length,
-                                                const uint32_t *columns, size_t columns_length,
-                                                const double *weights, size_t weights_length,
-                                                uint32_t source,
-                                                uint32_t target,
-                                                struct Settings settings,
-                                                double *estimate, size_t estimate_length,
-                                                double *residual, size_t residual_length,
-                                                uint32_t *reverse_starts, size_t reverse_starts_length,
-                                                uint32_t *reverse_columns, size_t reverse_columns_length,
-                                                double *reverse_weights, size_t reverse_weights_length,
-                                                double *in_degrees, size_t in_degrees_length,
-                                                double *out_degrees, size_t out_degrees_length,
-                                                double *priorities, size_t priorities_length,
-                                                uint32_t *nodes, size_t nodes_length,
-                                                uint64_t *queued, size_t queued_length,
-                                                uint64_t *visited, size_t visited_length);
+/* The same of rows. Refuses with 1 to 6. */
+struct Scored query_single_entry_rows(
+    uint32_t n,
+    const uint32_t *starts, size_t starts_length,               /* n + 1; read */
+    const uint32_t *columns, size_t columns_length,             /* m; read */
+    const double *weights, size_t weights_length,               /* m; read */
+    uint32_t source,
+    uint32_t target,
+    struct Settings settings,
+    double *estimate, size_t estimate_length,                   /* n; answer */
+    double *residual, size_t residual_length,                   /* n; answer */
+    double *degrees, size_t degrees_length,                     /* n; workspace */
+    double *priorities, size_t priorities_length,               /* n; workspace */
+    uint32_t *nodes, size_t nodes_length,                       /* n; workspace */
+    uint64_t *queued, size_t queued_length,                     /* (n + 63) / 64; workspace */
+    uint64_t *visited, size_t visited_length                    /* (n + 63) / 64; workspace */
+);
 
-uint32_t reachability_probabilities_rows(uint32_t n,
-                                         const uint32_t *starts, size_t starts_length,
-                                         const uint32_t *columns, size_t columns_length,
-                                         const double *weights, size_t weights_length,
-                                         uint32_t target,
-                                         struct Settings settings,
-                                         double *estimate, size_t estimate_length,
-                                         double *residual, size_t residual_length,
-                                         double *solution, size_t solution_length,
-                                         uint32_t *reverse_starts, size_t reverse_starts_length,
-                                         uint32_t *reverse_columns, size_t reverse_columns_length,
-                                         double *reverse_weights, size_t reverse_weights_length,
-                                         double *in_degrees, size_t in_degrees_length,
-                                         double *out_degrees, size_t out_degrees_length,
-                                         double *priorities, size_t priorities_length,
-                                         uint32_t *nodes, size_t nodes_length,
-                                         uint64_t *queued, size_t queued_length,
-                                         uint64_t *visited, size_t visited_length);
+/* estimate + alpha * residual for each node, crate forward_push. n is estimate_length. Refuses with 1, 3 and 6. */
+uint32_t extrapolated_solution(
+    const double *estimate, size_t estimate_length,             /* n; read */
+    const double *residual, size_t residual_length,             /* n; read */
+    double alpha,
+    double *solution, size_t solution_length                    /* n; answer */
+);
 
-/* crate combination */
+/* ---- Backward: scores to targets ----
+   `estimate` gets the scores and `residual` what is not handed out yet. */
 
-struct Scored combine_with_forward(const double *backward_estimate, size_t backward_estimate_length,
-                                   const double *backward_residual, size_t backward_residual_length,
-                                   const double *forward_estimate, size_t forward_estimate_length,
-                                   const double *forward_residual, size_t forward_residual_length,
-                                   double alpha);
+/* To one target.
+   Refuses with 1, 2, 3, 5 and 6. */
+struct Solved solve_single_target_links(
+    uint32_t n,
+    const uint32_t *from, size_t from_length,                   /* m; read */
+    const uint32_t *to, size_t to_length,                       /* m; read */
+    const double *weight, size_t weight_length,                 /* m; read */
+    uint32_t target,
+    struct Settings settings,
+    double *estimate, size_t estimate_length,                   /* n; answer */
+    double *residual, size_t residual_length,                   /* n; answer */
+    uint32_t *starts, size_t starts_length,                     /* n + 1; workspace */
+    uint32_t *columns, size_t columns_length,                   /* m; workspace */
+    double *weights, size_t weights_length,                     /* m; workspace */
+    uint32_t *reverse_starts, size_t reverse_starts_length,     /* n + 1; workspace */
+    uint32_t *reverse_columns, size_t reverse_columns_length,   /* m; workspace */
+    double *reverse_weights, size_t reverse_weights_length,     /* m; workspace */
+    double *in_degrees, size_t in_degrees_length,               /* n; workspace */
+    double *out_degrees, size_t out_degrees_length,             /* n; workspace */
+    double *priorities, size_t priorities_length,               /* n; workspace */
+    uint32_t *nodes, size_t nodes_length,                       /* n; workspace */
+    uint64_t *queued, size_t queued_length,                     /* (n + 63) / 64; workspace */
+    uint64_t *visited, size_t visited_length                    /* (n + 63) / 64; workspace */
+);
 
-/* both solvers together: both pairs of estimate and residual are the answer, what follows them is workspace */
+/* The same of rows. Refuses with 1 to 6. */
+struct Solved solve_single_target_rows(
+    uint32_t n,
+    const uint32_t *starts, size_t starts_length,               /* n + 1; read */
+    const uint32_t *columns, size_t columns_length,             /* m; read */
+    const double *weights, size_t weights_length,               /* m; read */
+    uint32_t target,
+    struct Settings settings,
+    double *estimate, size_t estimate_length,                   /* n; answer */
+    double *residual, size_t residual_length,                   /* n; answer */
+    uint32_t *reverse_starts, size_t reverse_starts_length,     /* n + 1; workspace */
+    uint32_t *reverse_columns, size_t reverse_columns_length,   /* m; workspace */
+    double *reverse_weights, size_t reverse_weights_length,     /* m; workspace */
+    double *in_degrees, size_t in_degrees_length,               /* n; workspace */
+    double *out_degrees, size_t out_degrees_length,             /* n; workspace */
+    double *priorities, size_t priorities_length,               /* n; workspace */
+    uint32_t *nodes, size_t nodes_length,                       /* n; workspace */
+    uint64_t *queued, size_t queued_length,                     /* (n + 63) / 64; workspace */
+    uint64_t *visited, size_t visited_length                    /* (n + 63) / 64; workspace */
+);
 
-struct Scored solve_bidirectional_links(uint32_t n,
-                                        const uint32_t *from, size_t from_length,
-                                        const uint32_t *to, size_t to_length,
-                                        const double *weight, size_t weight_length,
-                                        uint32_t source,
-                                        uint32_t target,
-                                        struct Settings forward_settings,
-                                        struct Settings backward_settings,
-                                        double *forward_estimate, size_t forward_estimate_length,
-                                        double *forward_residual, size_t forward_residual_length,
-                                        double *backward_estimate, size_t backward_estimate_length,
-                                        double *backward_residual, size_t backward_residual_length,
-                                        uint32_t *starts, size_t starts_length,
-                                        uint32_t *columns, size_t columns_length,
-                                        double *weights, size_t weights_length,
-                                        uint32_t *reverse_starts, size_t reverse_starts_length,
-                                        uint32_t *reverse_columns, size_t reverse_columns_length,
-                                        double *reverse_weights, size_t reverse_weights_length,
-                                        double *in_degrees, size_t in_degrees_length,
-                                        double *out_degrees, size_t out_degrees_length,
-                                        double *priorities, size_t priorities_length,
-                                        uint32_t *nodes, size_t nodes_length,
-                                        uint64_t *queued, size_t queued_length,
-                                        uint64_t *visited, size_t visited_length);
+/* To a list of targets, each entry with mass 1 / targets_length.
+   Refuses with 1, 2, 3, 5 and 6. */
+struct Solved solve_multi_target_links(
+    uint32_t n,
+    const uint32_t *from, size_t from_length,                   /* m; read */
+    const uint32_t *to, size_t to_length,                       /* m; read */
+    const double *weight, size_t weight_length,                 /* m; read */
+    const uint32_t *targets, size_t targets_length,             /* any length up to 65,536; read */
+    struct Settings settings,
+    double *estimate, size_t estimate_length,                   /* n; answer */
+    double *residual, size_t residual_length,                   /* n; answer */
+    uint32_t *starts, size_t starts_length,                     /* n + 1; workspace */
+    uint32_t *columns, size_t columns_length,                   /* m; workspace */
+    double *weights, size_t weights_length,                     /* m; workspace */
+    uint32_t *reverse_starts, size_t reverse_starts_length,     /* n + 1; workspace */
+    uint32_t *reverse_columns, size_t reverse_columns_length,   /* m; workspace */
+    double *reverse_weights, size_t reverse_weights_length,     /* m; workspace */
+    double *in_degrees, size_t in_degrees_length,               /* n; workspace */
+    double *out_degrees, size_t out_degrees_length,             /* n; workspace */
+    double *priorities, size_t priorities_length,               /* n; workspace */
+    uint32_t *nodes, size_t nodes_length,                       /* n; workspace */
+    uint64_t *queued, size_t queued_length,                     /* (n + 63) / 64; workspace */
+    uint64_t *visited, size_t visited_length                    /* (n + 63) / 64; workspace */
+);
 
-struct Scored adaptive_solve_links(uint32_t n,
-                                   const uint32_t *from, size_t from_length,
-                                   const uint32_t *to, size_t to_length,
-                                   const double *weight, size_t weight_length,
-                                   uint32_t source,
-                                   uint32_t target,
-                                   struct Settings forward_settings,
-                                   struct Settings backward_settings,
-                                   double *forward_estimate, size_t forward_estimate_length,
-                                   double *forward_residual, size_t forward_residual_length,
-                                   double *backward_estimate, size_t backward_estimate_length,
-                                   double *backward_residual, size_t backward_residual_length,
-                                   uint32_t *starts, size_t starts_length,
-                                   uint32_t *columns, size_t columns_length,
-                                   double *weights, size_t weights_length,
-                                   uint32_t *reverse_starts, size_t reverse_starts_length,
-                                   uint32_t *reverse_columns, size_t reverse_columns_length,
-                                   double *reverse_weights, size_t reverse_weights_length,
-                                   double *in_degrees, size_t in_degrees_length,
-                                   double *out_degrees, size_t out_degrees_length,
-                                   double *priorities, size_t priorities_length,
-                                   uint32_t *nodes, size_t nodes_length,
-                                   uint64_t *queued, size_t queued_length,
-                                   uint64_t *visited, size_t visited_length);
+/* The same of rows. Refuses with 1 to 6. */
+struct Solved solve_multi_target_rows(
+    uint32_t n,
+    const uint32_t *starts, size_t starts_length,               /* n + 1; read */
+    const uint32_t *columns, size_t columns_length,             /* m; read */
+    const double *weights, size_t weights_length,               /* m; read */
+    const uint32_t *targets, size_t targets_length,             /* any length up to 65,536; read */
+    struct Settings settings,
+    double *estimate, size_t estimate_length,                   /* n; answer */
+    double *residual, size_t residual_length,                   /* n; answer */
+    uint32_t *reverse_starts, size_t reverse_starts_length,     /* n + 1; workspace */
+    uint32_t *reverse_columns, size_t reverse_columns_length,   /* m; workspace */
+    double *reverse_weights, size_t reverse_weights_length,     /* m; workspace */
+    double *in_degrees, size_t in_degrees_length,               /* n; workspace */
+    double *out_degrees, size_t out_degrees_length,             /* n; workspace */
+    double *priorities, size_t priorities_length,               /* n; workspace */
+    uint32_t *nodes, size_t nodes_length,                       /* n; workspace */
+    uint64_t *queued, size_t queued_length,                     /* (n + 63) / 64; workspace */
+    uint64_t *visited, size_t visited_length                    /* (n + 63) / 64; workspace */
+);
 
-struct Scored solve_bidirectional_rows(uint32_t n,
-                                       const uint32_t *starts, size_t starts_length,
-                                       const uint32_t *columns, size_t columns_length,
-                                       const double *weights, size_t weights_length,
-                                       uint32_t source,
-                                       uint32_t target,
-                                       struct Settings forward_settings,
-                                       struct Settings backward_settings,
-                                       double *forward_estimate, size_t forward_estimate_length,
-                                       double *forward_residual, size_t forward_residual_length,
-                                       double *backward_estimate, size_t backward_estimate_length,
-                                       double *backward_residual, size_t backward_residual_length,
-                                       uint32_t *reverse_starts, size_t reverse_starts_length,
-                                       uint32_t *reverse_columns, size_t reverse_columns_length,
-                                       double *reverse_weights, size_t reverse_weights_length,
-                                       double *in_degrees, size_t in_degrees_length,
-                                       double *out_degrees, size_t out_degrees_length,
-                                       double *priorities, size_t priorities_length,
-                                       uint32_t *nodes, size_t nodes_length,
-                                       uint64_t *queued, size_t queued_length,
-                                       uint64_t *visited, size_t visited_length);
+/* To one target, until the source's estimate is above source_precision and its residual below a tenth of that. Nothing is
+   pushed where the source is no node.
+   Refuses with 1, 2, 3, 5, 6 and 7. */
+struct Solved solve_with_source_links(
+    uint32_t n,
+    const uint32_t *from, size_t from_length,                   /* m; read */
+    const uint32_t *to, size_t to_length,                       /* m; read */
+    const double *weight, size_t weight_length,                 /* m; read */
+    uint32_t source,
+    uint32_t target,
+    double source_precision,
+    struct Settings settings,
+    double *estimate, size_t estimate_length,                   /* n; answer */
+    double *residual, size_t residual_length,                   /* n; answer */
+    uint32_t *starts, size_t starts_length,                     /* n + 1; workspace */
+    uint32_t *columns, size_t columns_length,                   /* m; workspace */
+    double *weights, size_t weights_length,                     /* m; workspace */
+    uint32_t *reverse_starts, size_t reverse_starts_length,     /* n + 1; workspace */
+    uint32_t *reverse_columns, size_t reverse_columns_length,   /* m; workspace */
+    double *reverse_weights, size_t reverse_weights_length,     /* m; workspace */
+    double *in_degrees, size_t in_degrees_length,               /* n; workspace */
+    double *out_degrees, size_t out_degrees_length,             /* n; workspace */
+    double *priorities, size_t priorities_length,               /* n; workspace */
+    uint32_t *nodes, size_t nodes_length,                       /* n; workspace */
+    uint64_t *queued, size_t queued_length,                     /* (n + 63) / 64; workspace */
+    uint64_t *visited, size_t visited_length                    /* (n + 63) / 64; workspace */
+);
 
-struct Scored adaptive_solve_rows(uint32_t n,
-                                  const uint32_t *starts, size_t starts_length,
-                                  const uint32_t *columns, size_t columns_length,
-                                  const double *weights, size_t weights_length,
-                                  uint32_t source,
-                                  uint32_t target,
-                                  struct Settings forward_settings,
-                                  struct Settings backward_settings,
-                                  double *forward_estimate, size_t forward_estimate_length,
-                                  double *forward_residual, size_t forward_residual_length,
-                                  double *backward_estimate, size_t backward_estimate_length,
-                                  double *backward_residual, size_t backward_residual_length,
-                                  uint32_t *reverse_starts, size_t reverse_starts_length,
-                                  uint32_t *reverse_columns, size_t reverse_columns_length,
-                                  double *reverse_weights, size_t reverse_weights_length,
-                                  double *in_degrees, size_t in_degrees_length,
-                                  double *out_degrees, size_t out_degrees_length,
-                                  double *priorities, size_t priorities_length,
-                                  uint32_t *nodes, size_t nodes_length,
-                                  uint64_t *queued, size_t queued_length,
-                                  uint64_t *visited, size_t visited_length);
+/* The same of rows. Refuses with 1 to 7. */
+struct Solved solve_with_source_rows(
+    uint32_t n,
+    const uint32_t *starts, size_t starts_length,               /* n + 1; read */
+    const uint32_t *columns, size_t columns_length,             /* m; read */
+    const double *weights, size_t weights_length,               /* m; read */
+    uint32_t source,
+    uint32_t target,
+    double source_precision,
+    struct Settings settings,
+    double *estimate, size_t estimate_length,                   /* n; answer */
+    double *residual, size_t residual_length,                   /* n; answer */
+    uint32_t *reverse_starts, size_t reverse_starts_length,     /* n + 1; workspace */
+    uint32_t *reverse_columns, size_t reverse_columns_length,   /* m; workspace */
+    double *reverse_weights, size_t reverse_weights_length,     /* m; workspace */
+    double *in_degrees, size_t in_degrees_length,               /* n; workspace */
+    double *out_degrees, size_t out_degrees_length,             /* n; workspace */
+    double *priorities, size_t priorities_length,               /* n; workspace */
+    uint32_t *nodes, size_t nodes_length,                       /* n; workspace */
+    uint64_t *queued, size_t queued_length,                     /* (n + 63) / 64; workspace */
+    uint64_t *visited, size_t visited_length                    /* (n + 63) / 64; workspace */
+);
+
+/* The source's score to one target; `estimate` and `residual` get what the solve gives.
+   Refuses with 1, 2, 3, 5 and 6. */
+struct Scored query_transition_probability_links(
+    uint32_t n,
+    const uint32_t *from, size_t from_length,                   /* m; read */
+    const uint32_t *to, size_t to_length,                       /* m; read */
+    const double *weight, size_t weight_length,                 /* m; read */
+    uint32_t source,
+    uint32_t target,
+    struct Settings settings,
+    double *estimate, size_t estimate_length,                   /* n; answer */
+    double *residual, size_t residual_length,                   /* n; answer */
+    uint32_t *starts, size_t starts_length,                     /* n + 1; workspace */
+    uint32_t *columns, size_t columns_length,                   /* m; workspace */
+    double *weights, size_t weights_length,                     /* m; workspace */
+    uint32_t *reverse_starts, size_t reverse_starts_length,     /* n + 1; workspace */
+    uint32_t *reverse_columns, size_t reverse_columns_length,   /* m; workspace */
+    double *reverse_weights, size_t reverse_weights_length,     /* m; workspace */
+    double *in_degrees, size_t in_degrees_length,               /* n; workspace */
+    double *out_degrees, size_t out_degrees_length,             /* n; workspace */
+    double *priorities, size_t priorities_length,               /* n; workspace */
+    uint32_t *nodes, size_t nodes_length,                       /* n; workspace */
+    uint64_t *queued, size_t queued_length,                     /* (n + 63) / 64; workspace */
+    uint64_t *visited, size_t visited_length                    /* (n + 63) / 64; workspace */
+);
+
+/* The same of rows. Refuses with 1 to 6. */
+struct Scored query_transition_probability_rows(
+    uint32_t n,
+    const uint32_t *starts, size_t starts_length,               /* n + 1; read */
+    const uint32_t *columns, size_t columns_length,             /* m; read */
+    const double *weights, size_t weights_length,               /* m; read */
+    uint32_t source,
+    uint32_t target,
+    struct Settings settings,
+    double *estimate, size_t estimate_length,                   /* n; answer */
+    double *residual, size_t residual_length,                   /* n; answer */
+    uint32_t *reverse_starts, size_t reverse_starts_length,     /* n + 1; workspace */
+    uint32_t *reverse_columns, size_t reverse_columns_length,   /* m; workspace */
+    double *reverse_weights, size_t reverse_weights_length,     /* m; workspace */
+    double *in_degrees, size_t in_degrees_length,               /* n; workspace */
+    double *out_degrees, size_t out_degrees_length,             /* n; workspace */
+    double *priorities, size_t priorities_length,               /* n; workspace */
+    uint32_t *nodes, size_t nodes_length,                       /* n; workspace */
+    uint64_t *queued, size_t queued_length,                     /* (n + 63) / 64; workspace */
+    uint64_t *visited, size_t visited_length                    /* (n + 63) / 64; workspace */
+);
+
+/* To one target; `solution` gets estimate + alpha * residual for each node. Returns the refusal.
+   Refuses with 1, 2, 3, 5 and 6. */
+uint32_t reachability_probabilities_links(
+    uint32_t n,
+    const uint32_t *from, size_t from_length,                   /* m; read */
+    const uint32_t *to, size_t to_length,                       /* m; read */
+    const double *weight, size_t weight_length,                 /* m; read */
+    uint32_t target,
+    struct Settings settings,
+    double *estimate, size_t estimate_length,                   /* n; answer */
+    double *residual, size_t residual_length,                   /* n; answer */
+    double *solution, size_t solution_length,                   /* n; answer */
+    uint32_t *starts, size_t starts_length,                     /* n + 1; workspace */
+    uint32_t *columns, size_t columns_length,                   /* m; workspace */
+    double *weights, size_t weights_length,                     /* m; workspace */
+    uint32_t *reverse_starts, size_t reverse_starts_length,     /* n + 1; workspace */
+    uint32_t *reverse_columns, size_t reverse_columns_length,   /* m; workspace */
+    double *reverse_weights, size_t reverse_weights_length,     /* m; workspace */
+    double *in_degrees, size_t in_degrees_length,               /* n; workspace */
+    double *out_degrees, size_t out_degrees_length,             /* n; workspace */
+    double *priorities, size_t priorities_length,               /* n; workspace */
+    uint32_t *nodes, size_t nodes_length,                       /* n; workspace */
+    uint64_t *queued, size_t queued_length,                     /* (n + 63) / 64; workspace */
+    uint64_t *visited, size_t visited_length                    /* (n + 63) / 64; workspace */
+);
+
+/* The same of rows. Refuses with 1 to 6. */
+uint32_t reachability_probabilities_rows(
+    uint32_t n,
+    const uint32_t *starts, size_t starts_length,               /* n + 1; read */
+    const uint32_t *columns, size_t columns_length,             /* m; read */
+    const double *weights, size_t weights_length,               /* m; read */
+    uint32_t target,
+    struct Settings settings,
+    double *estimate, size_t estimate_length,                   /* n; answer */
+    double *residual, size_t residual_length,                   /* n; answer */
+    double *solution, size_t solution_length,                   /* n; answer */
+    uint32_t *reverse_starts, size_t reverse_starts_length,     /* n + 1; workspace */
+    uint32_t *reverse_columns, size_t reverse_columns_length,   /* m; workspace */
+    double *reverse_weights, size_t reverse_weights_length,     /* m; workspace */
+    double *in_degrees, size_t in_degrees_length,               /* n; workspace */
+    double *out_degrees, size_t out_degrees_length,             /* n; workspace */
+    double *priorities, size_t priorities_length,               /* n; workspace */
+    uint32_t *nodes, size_t nodes_length,                       /* n; workspace */
+    uint64_t *queued, size_t queued_length,                     /* (n + 63) / 64; workspace */
+    uint64_t *visited, size_t visited_length                    /* (n + 63) / 64; workspace */
+);
+
+/* ---- Both together ---- */
+
+/* Added from +0, node by node: the product of the estimates, then backward_residual * forward_estimate * alpha, then
+   backward_estimate * forward_residual * alpha; alpha is the backward solve's. Crate combination. n is
+   backward_estimate_length. Refuses with 1, 3 and 6. */
+struct Scored combine_with_forward(
+    const double *backward_estimate, size_t backward_estimate_length,/* n; read */
+    const double *backward_residual, size_t backward_residual_length,/* n; read */
+    const double *forward_estimate, size_t forward_estimate_length,/* n; read */
+    const double *forward_residual, size_t forward_residual_length,/* n; read */
+    double alpha
+);
+
+/* A forward solve from the source and a backward one to the target, combined as by combine_with_forward.
+   Refuses with 1, 2, 3, 5 and 6. */
+struct Scored solve_bidirectional_links(
+    uint32_t n,
+    const uint32_t *from, size_t from_length,                   /* m; read */
+    const uint32_t *to, size_t to_length,                       /* m; read */
+    const double *weight, size_t weight_length,                 /* m; read */
+    uint32_t source,
+    uint32_t target,
+    struct Settings forward_settings,
+    struct Settings backward_settings,
+    double *forward_estimate, size_t forward_estimate_length,   /* n; answer */
+    double *forward_residual, size_t forward_residual_length,   /* n; answer */
+    double *backward_estimate, size_t backward_estimate_length, /* n; answer */
+    double *backward_residual, size_t backward_residual_length, /* n; answer */
+    uint32_t *starts, size_t starts_length,                     /* n + 1; workspace */
+    uint32_t *columns, size_t columns_length,                   /* m; workspace */
+    double *weights, size_t weights_length,                     /* m; workspace */
+    uint32_t *reverse_starts, size_t reverse_starts_length,     /* n + 1; workspace */
+    uint32_t *reverse_columns, size_t reverse_columns_length,   /* m; workspace */
+    double *reverse_weights, size_t reverse_weights_length,     /* m; workspace */
+    double *in_degrees, size_t in_degrees_length,               /* n; workspace */
+    double *out_degrees, size_t out_degrees_length,             /* n; workspace */
+    double *priorities, size_t priorities_length,               /* n; workspace */
+    uint32_t *nodes, size_t nodes_length,                       /* n; workspace */
+    uint64_t *queued, size_t queued_length,                     /* (n + 63) / 64; workspace */
+    uint64_t *visited, size_t visited_length                    /* (n + 63) / 64; workspace */
+);
+
+/* The same of rows. Refuses with 1 to 6. */
+struct Scored solve_bidirectional_rows(
+    uint32_t n,
+    const uint32_t *starts, size_t starts_length,               /* n + 1; read */
+    const uint32_t *columns, size_t columns_length,             /* m; read */
+    const double *weights, size_t weights_length,               /* m; read */
+    uint32_t source,
+    uint32_t target,
+    struct Settings forward_settings,
+    struct Settings backward_settings,
+    double *forward_estimate, size_t forward_estimate_length,   /* n; answer */
+    double *forward_residual, size_t forward_residual_length,   /* n; answer */
+    double *backward_estimate, size_t backward_estimate_length, /* n; answer */
+    double *backward_residual, size_t backward_residual_length, /* n; answer */
+    uint32_t *reverse_starts, size_t reverse_starts_length,     /* n + 1; workspace */
+    uint32_t *reverse_columns, size_t reverse_columns_length,   /* m; workspace */
+    double *reverse_weights, size_t reverse_weights_length,     /* m; workspace */
+    double *in_degrees, size_t in_degrees_length,               /* n; workspace */
+    double *out_degrees, size_t out_degrees_length,             /* n; workspace */
+    double *priorities, size_t priorities_length,               /* n; workspace */
+    uint32_t *nodes, size_t nodes_length,                       /* n; workspace */
+    uint64_t *queued, size_t queued_length,                     /* (n + 63) / 64; workspace */
+    uint64_t *visited, size_t visited_length                    /* (n + 63) / 64; workspace */
+);
+
+/* By the degrees: where out(source) > 2 * in(target) the source's score of the backward solve alone, else where in(target) >
+   2 * out(source) the target's of the forward one alone, else as solve_bidirectional_links. The pair of a solve that isn't made
+   gets +0 everywhere.
+   Refuses with 1, 2, 3, 5 and 6. */
+struct Scored adaptive_solve_links(
+    uint32_t n,
+    const uint32_t *from, size_t from_length,                   /* m; read */
+    const uint32_t *to, size_t to_length,                       /* m; read */
+    const double *weight, size_t weight_length,                 /* m; read */
+    uint32_t source,
+    uint32_t target,
+    struct Settings forward_settings,
+    struct Settings backward_settings,
+    double *forward_estimate, size_t forward_estimate_length,   /* n; answer */
+    double *forward_residual, size_t forward_residual_length,   /* n; answer */
+    double *backward_estimate, size_t backward_estimate_length, /* n; answer */
+    double *backward_residual, size_t backward_residual_length, /* n; answer */
+    uint32_t *starts, size_t starts_length,                     /* n + 1; workspace */
+    uint32_t *columns, size_t columns_length,                   /* m; workspace */
+    double *weights, size_t weights_length,                     /* m; workspace */
+    uint32_t *reverse_starts, size_t reverse_starts_length,     /* n + 1; workspace */
+    uint32_t *reverse_columns, size_t reverse_columns_length,   /* m; workspace */
+    double *reverse_weights, size_t reverse_weights_length,     /* m; workspace */
+    double *in_degrees, size_t in_degrees_length,               /* n; workspace */
+    double *out_degrees, size_t out_degrees_length,             /* n; workspace */
+    double *priorities, size_t priorities_length,               /* n; workspace */
+    uint32_t *nodes, size_t nodes_length,                       /* n; workspace */
+    uint64_t *queued, size_t queued_length,                     /* (n + 63) / 64; workspace */
+    uint64_t *visited, size_t visited_length                    /* (n + 63) / 64; workspace */
+);
+
+/* The same of rows. Refuses with 1 to 6. */
+struct Scored adaptive_solve_rows(
+    uint32_t n,
+    const uint32_t *starts, size_t starts_length,               /* n + 1; read */
+    const uint32_t *columns, size_t columns_length,             /* m; read */
+    const double *weights, size_t weights_length,               /* m; read */
+    uint32_t source,
+    uint32_t target,
+    struct Settings forward_settings,
+    struct Settings backward_settings,
+    double *forward_estimate, size_t forward_estimate_length,   /* n; answer */
+    double *forward_residual, size_t forward_residual_length,   /* n; answer */
+    double *backward_estimate, size_t backward_estimate_length, /* n; answer */
+    double *backward_residual, size_t backward_residual_length, /* n; answer */
+    uint32_t *reverse_starts, size_t reverse_starts_length,     /* n + 1; workspace */
+    uint32_t *reverse_columns, size_t reverse_columns_length,   /* m; workspace */
+    double *reverse_weights, size_t reverse_weights_length,     /* m; workspace */
+    double *in_degrees, size_t in_degrees_length,               /* n; workspace */
+    double *out_degrees, size_t out_degrees_length,             /* n; workspace */
+    double *priorities, size_t priorities_length,               /* n; workspace */
+    uint32_t *nodes, size_t nodes_length,                       /* n; workspace */
+    uint64_t *queued, size_t queued_length,                     /* (n + 63) / 64; workspace */
+    uint64_t *visited, size_t visited_length                    /* (n + 63) / 64; workspace */
+);
 
 #ifdef __cplusplus
 }

@@ -1,22 +1,29 @@
 //! Compares the proved library with the repaired Rust, input by input.
 //!
-//! compare [full] [seed N] [store] [forward] [backward] [bidirectional] [jobs] [planted]
+//! compare [full | short] [seed N] [behind | before] [overrun NAME] [store] [forward] [backward] [bidirectional] [jobs] [planted]
 //!
 //! Without `full` it runs the share that the gate runs. Where parts are named it runs these: `store` is the square
 //! root, the norm, the graph store and the calls on vectors alone, `jobs` the job program as a process. `planted` puts
 //! one wrong digit into some of the proved library's answers, of the square root, of each call of the solvers and of
 //! the job program, to show that a difference is found: the program must then fail, and it does so only where each is
 //! found.
+//!
+//! `behind` puts every list that is lent right before memory that nothing may touch, and `before` right behind such memory, so
+//! that a word read or written outside ends the program. `short` takes a hundredth of the inputs that the gate draws.
+//! `overrun NAME` does what must end it: see `overrun`.
 mod calls;
 mod graph;
 mod jobs;
 mod norm;
+mod overrun;
 mod solves;
 mod square_root;
 mod vectors;
 
 use runs::calls::entry::Solver;
 use runs::comparison::Comparison;
+use runs::fenced::Fence;
+use runs::lent;
 use runs::random::Random;
 
 const SOLVERS: [Solver; 3] = [Solver::Forward, Solver::Backward, Solver::Bidirectional];
@@ -25,6 +32,7 @@ const VECTORS: [vectors::Entry; 2] = [vectors::Entry::Extrapolated, vectors::Ent
 /// What a run was asked for.
 pub struct Asked {
     pub full: bool,
+    pub short: bool,
     pub planted: bool,
     pub seed: u64,
     /// The parts that are named: none stand for all.
@@ -34,6 +42,9 @@ pub struct Asked {
 impl Asked {
     /// The number of inputs: `gate` in the gate, `full` in a full run.
     pub fn size(&self, gate: u64, full: u64) -> u64 {
+        if self.short {
+            return gate.div_ceil(100);
+        }
         if self.full { full } else { gate }
     }
 
@@ -43,15 +54,19 @@ impl Asked {
 }
 
 fn main() {
-    let mut asked = Asked { full: false, planted: false, seed: 1, parts: Vec::new() };
+    let mut asked = Asked { full: false, short: false, planted: false, seed: 1, parts: Vec::new() };
     let mut words = std::env::args().skip(1);
     while let Some(word) = words.next() {
         match word.as_str() {
             "full" => asked.full = true,
+            "short" => asked.short = true,
+            "behind" => lent::fence(Fence::Behind),
+            "before" => lent::fence(Fence::Before),
+            "overrun" => return overrun::done(&words.next().expect("overrun takes a name")),
             "planted" => asked.planted = true,
             "seed" => asked.seed = words.next().and_then(|n| n.parse().ok()).expect("seed takes a number"),
             "store" | "forward" | "backward" | "bidirectional" | "jobs" => asked.parts.push(word),
-            _ => panic!("compare [full] [seed N] [store] [forward] [backward] [bidirectional] [jobs] [planted]"),
+            _ => panic!("compare [full | short] [seed N] [behind | before] [overrun NAME] [store] [forward] [backward] [bidirectional] [jobs] [planted]"),
         }
     }
     let mut random = Random::new(asked.seed);

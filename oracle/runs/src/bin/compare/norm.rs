@@ -5,6 +5,7 @@ use repaired::graph::PushGraph;
 use repaired::solver::forward_push::{ForwardPushConfig, ForwardPushSolver};
 use runs::comparison::{same, Comparison};
 use runs::entries;
+use runs::lent::Lent;
 use runs::random::Random;
 
 /// A residual vector and the norm that the Rust gives for it.
@@ -24,7 +25,7 @@ pub fn compare(asked: &Asked, comparison: &mut Comparison, random: &mut Random) 
 }
 
 fn difference(case: &Case) -> Option<String> {
-    let norm = entries::compute_residual_norm(&case.residual);
+    let norm = entries::compute_residual_norm(Lent::holding(&case.residual).slice());
     (!same(norm, case.norm)).then(|| {
         format!("compute_residual_norm gives {:016x}, the Rust {:016x}", norm.to_bits(), case.norm.to_bits())
     })

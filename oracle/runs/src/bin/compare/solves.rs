@@ -171,7 +171,7 @@ impl Solves<'_> {
     fn adapting(&self, comparison: &mut Comparison, random: &mut Random) {
         let layout = Layout(self.solver);
         let mut kind = |name: &str, inputs: Vec<Call>| self.kind(comparison, name, inputs.into_iter());
-        kind("thousands of pushes, threshold falling", layout.thousands(random, self.size(500, 10_000)));
+        kind("thousands of pushes, threshold falling", layout.thousands(random, self.size(500, 10_000).max(30)));
         kind("queues above 10,000 that stay", layout.stars(random, self.size(8, 200)));
         kind("queues above 10,000 and then below 100", layout.waves(random, self.size(12, 400)));
         // A queue of a certain size takes a solve from many nodes.
@@ -181,7 +181,8 @@ impl Solves<'_> {
     }
 
     fn watched_and_many(&self, comparison: &mut Comparison, random: &mut Random) {
-        let inputs = watched::stopping(random, self.solver, self.size(2_000, 40_000));
+        // Some must stop early, some late and some never: a short run has enough of them for that too.
+        let inputs = watched::stopping(random, self.solver, self.size(2_000, 40_000).max(100));
         self.kind(comparison, "watched nodes reached early, late and never", inputs.into_iter());
         let sizes = [1, 3, 1_000, MOST_NODES];
         let inputs = sizes.iter().flat_map(|&nodes| {

@@ -30,7 +30,7 @@ pub struct Scored {
 }
 
 /// A list of links among n nodes.
-#[derive(Clone, Copy)]
+#[derive(Clone, Copy, Debug)]
 pub struct Links<'a> {
     pub n: u32,
     pub from: &'a [u32],
@@ -39,7 +39,7 @@ pub struct Links<'a> {
 }
 
 /// The rows of n nodes.
-#[derive(Clone, Copy)]
+#[derive(Clone, Copy, Debug)]
 pub struct Rows<'a> {
     pub n: u32,
     pub starts: &'a [u32],

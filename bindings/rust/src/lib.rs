@@ -1,0 +1,20 @@
+#![doc = include_str!("../README.md")]
+// The calls as methods of `Links` and `Rows`; `entries` has them as they are exported.
+mod answers;
+pub mod entries;
+mod graph;
+mod refusal;
+mod solves;
+mod space;
+
+pub use answers::{Joined, Matrix, OwnedRows, Query, Reachability, Solution};
+pub use entries::{compute_residual_norm, square_root, Links, Rows, Settings};
+pub use graph::{combine_with_forward, extrapolated_solution};
+pub use refusal::Refusal;
+
+impl Default for Settings {
+    /// The settings that the Rust has where none are given.
+    fn default() -> Self {
+        Self { alpha: 0.15, epsilon: 1e-6, queue_threshold: 1e-8, max_pushes: 1_000_000, adaptive_threshold: true }
+    }
+}
