@@ -8,7 +8,7 @@ use lib.Ieee.{Float}
 use Rattle.refusals.specs.Refusals.{_or_, settings}
 use Rattle.refusals.specs.Calls.{Left, left, call}
 use Rattle.refusals.specs.declared.Settings.{Settings}
-use Rattle.refusals.proofs.Laws.{Sized}
+use Rattle.refusals.proofs.Laws.{Sized, left-done}
 use Rattle.rules.specs.Ways.{backward}
 use Rattle.rules.specs.Rules.{State, unwatched}
 use Rattle.rules.specs.Answers.{extrapolated}
@@ -32,9 +32,8 @@ module _ {B : Type 0} where
 
   -- and left the buffers as they are after it
   done-lent : (number : ℕ) (g : Given State B) (s : State) {c : Counted} {b : B} → left c b ≡ counted number g s → c .refusal ≡ 0 → b ≡ g .after s
-  unfolding counted call
-  done-lent zero g s d h = ap (λ (y : Left Counted B). y .lent) d
-  done-lent (suc k) g s d h = absurd (omega (arith, ap (λ (y : Left Counted B). y .answer .refusal) d))
+  unfolding counted
+  done-lent number g s d h = ap (λ (y : Left Counted B). y .lent) (left-done _ _ _ number d (done-number number g s d h))
 
 -- the answer stands beside what the solve is lent, as `wrap` has it
 module _ {B C : Type 0} (wrap : List Float → B → C) where

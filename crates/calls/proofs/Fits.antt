@@ -1,7 +1,7 @@
 -- Buffers of the stated lengths have room for a solve. Assumes nothing.
 use Prim.Native.Nat.{ℕ, _*_, _≤_}
 use mathlib.Core.List.{List}
-use mathlib.Core.Path.{_≡_, _∙_}
+use mathlib.Core.Path.{_≡_, refl, _∙_}
 use native.Mathlib.Omega.{arith}
 use lib.ListN.{length}
 use lib.Ieee.{Float}
@@ -35,25 +35,31 @@ fits {n} sources b few z =
       visited-long = l .1 .1 .1 .1 .1 .1 .0;
     }
 
--- and so where the nodes are others, as many
+-- what else is lent, for other sources, has room where it is as long
+pub fits-again : {n : ℕ} {sources sources′ : List ℕ} {e r d p e′ r′ d′ p′ : List Float} {k q v k′ q′ v′ : List ℕ} → Fits n sources (solveLent e r d p k q v) → length sources′ ≤ 65536
+    → length e′ ≡ n → length r′ ≡ n → length d′ ≡ n → length p′ ≡ length p → length k′ ≡ length k → length q′ ≡ length q → length v′ ≡ length v
+    → Fits n sources′ (solveLent e′ r′ d′ p′ k′ q′ v′)
+fits-again f few e r d p k q v =
+    let room = f .room in
+    record {
+      listed = few;
+      room =
+          record {
+            few = room .few;
+            estimate-long = e;
+            residual-long = r;
+            wide = p ∙ room .wide;
+            paired = k ∙ room .paired;
+            queued-room = rw q (room .queued-room);
+            visited-room = rw v (room .visited-room);
+          };
+      degrees-long = d;
+      queued-long = q ∙ f .queued-long;
+      visited-long = v ∙ f .visited-long;
+    }
+
+-- and so where the nodes alone are others
 pub fits-nodes : {n : ℕ} {sources : List ℕ} {estimate residual degrees priorities : List Float} {nodes nodes′ queued visited : List ℕ}
     → Fits n sources (solveLent estimate residual degrees priorities nodes queued visited) → length nodes′ ≡ length nodes
     → Fits n sources (solveLent estimate residual degrees priorities nodes′ queued visited)
-fits-nodes f e =
-    let r = f .room in
-    record {
-      listed = f .listed;
-      room =
-          record {
-            few = r .few;
-            estimate-long = r .estimate-long;
-            residual-long = r .residual-long;
-            wide = r .wide;
-            paired = e ∙ r .paired;
-            queued-room = r .queued-room;
-            visited-room = r .visited-room;
-          };
-      degrees-long = f .degrees-long;
-      queued-long = f .queued-long;
-      visited-long = f .visited-long;
-    }
+fits-nodes f e = fits-again f (f .listed) (f .room .estimate-long) (f .room .residual-long) (f .degrees-long) refl e refl refl

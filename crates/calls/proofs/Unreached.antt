@@ -1,14 +1,14 @@
 -- Demand 3 of what a call leaves: where a solve is done, a node that no source can reach, or backward that can reach no target, has score and remainder +0
 -- in the lent vectors. Assumes nothing.
-use Prim.Native.Nat.{ℕ, zero, suc, _<_}
+use Prim.Native.Nat.{ℕ, _<_}
 use mathlib.Core.Bool.{Bool, true, false}
 use mathlib.Core.List.{List}
 use mathlib.Core.Path.{_≡_, ap, _∙_}
-use native.Mathlib.Omega.{arith}
 use lib.Ieee.{Float}
 use Rattle.numbers.specs.Numbers.{+0}
-use Rattle.refusals.specs.Calls.{Left, call}
+use Rattle.refusals.specs.Calls.{Left}
 use Rattle.refusals.specs.declared.Settings.{Settings}
+use Rattle.refusals.proofs.Laws.{left-done}
 use Rattle.graph.specs.Rows.{Entry}
 use Rattle.rules.specs.Ways.{rowAt}
 use Rattle.rules.specs.Rules.{State, Watch, at}
@@ -24,9 +24,8 @@ Joined true row n list v = Reaches row n list v
 
 -- a solve that is not refused leaves the buffers as they are after it
 done-leaves : {B : Type 0} (number : ℕ) (g : Given State B) (s : State) {x : Left Solved B} → Solves number g s x → number ≡ 0 → x .lent ≡ g .after s
-unfolding solvedWith call
-done-leaves zero g s z e = ap (λ (y : Left Solved _). y .lent) (z .leaves)
-done-leaves (suc k) g s z e = absurd (omega arith)
+unfolding solvedWith
+done-leaves number g s z e = ap (λ (y : Left Solved _). y .lent) (left-done _ _ _ number (z .leaves) e)
 
 -- the state that a solve ends in
 pub unjoined-ends : {S B : Type 0} (backward : Bool) (g : Given S B) (settings : Settings) (watch : Watch) (list : List ℕ) (v : ℕ) → v < g .nodes

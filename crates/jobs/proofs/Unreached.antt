@@ -3,7 +3,7 @@ use Prim.Native.Nat.{ℕ, suc, _<_}
 use mathlib.Core.List.{_++_}
 use mathlib.Core.Path.{_≡_, sym, ap, _∙_}
 use lib.ListN.{take, drop}
-use lib.Ieee.{Float}
+use lib.Ieee.{Float, nan}
 use Rattle.numbers.specs.Numbers.{+0}
 use Rattle.graph.specs.Rows.{linksOf}
 use Rattle.rules.specs.Ways.{forward, overLinks}
@@ -33,4 +33,6 @@ module _ (j : Job) where
   unreached-line v h off =
       let z = end-sized in
       let u = end-untouched v h off in
-      rw (u .score, u .remainder) at (line-at v (end j .estimate) (end j .residual) +0 (rw (z .estimate-long) h) (z .residual-long ∙ sym (z .estimate-long)))
+      line-at v (end j .estimate) (end j .residual) nan (rw (z .estimate-long) h) (z .residual-long ∙ sym (z .estimate-long))
+      ∙ ap (λ (x : Float). nodeLines 0 (take v (end j .estimate)) (take v (end j .residual)) ++ (nodeLine v x (at (end j .residual) v) ++ nodeLines (suc v) (drop (suc v) (end j .estimate)) (drop (suc v) (end j .residual)))) (u .score)
+      ∙ ap (λ (x : Float). nodeLines 0 (take v (end j .estimate)) (take v (end j .residual)) ++ (nodeLine v +0 x ++ nodeLines (suc v) (drop (suc v) (end j .estimate)) (drop (suc v) (end j .residual)))) (u .remainder)

@@ -11,3 +11,12 @@ pub mod Settle
 mod Best
 pub mod Enter
 mod Leave
+mod Logic
+mod Local
+mod Record
+mod Thin
+mod Buffers
+mod ThinAdapt
+mod ThinOffer
+mod ThinPop
+mod Promised

@@ -77,7 +77,7 @@ fn offer_up_to(
     let mut q = queue;
     let mut v = 0;
     while v <= last {
-        q = queue::push_if_threshold(q, priorities, nodes, marks, v, priority);
+        q = queue::held::offer(q, priorities, nodes, marks, v, priority);
         v += 1;
     }
     q
@@ -101,7 +101,7 @@ fn pop_and_compare(
             agrees: false,
         };
     }
-    let popped = queue::pop(queue, priorities, nodes, marks);
+    let popped = queue::held::pop(queue, priorities, nodes, marks);
     let left = popped.queue;
     Done {
         queue: left,
@@ -128,7 +128,7 @@ fn start_or_offer(
         return queue::start(number, priorities, nodes, marks);
     }
     if what == OFFER {
-        return queue::push_if_threshold(queue, priorities, nodes, marks, node, number);
+        return queue::held::offer(queue, priorities, nodes, marks, node, number);
     }
     offer_up_to(queue, priorities, nodes, marks, node, number)
 }
@@ -159,7 +159,7 @@ fn perform(
         return pop_and_compare(queue, priorities, nodes, marks, node);
     }
     if what == ADAPT {
-        let queue = queue::adaptive_threshold(queue);
+        let queue = queue::held::adapt(queue);
         return Done {
             queue,
             agrees: true,

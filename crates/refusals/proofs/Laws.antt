@@ -142,6 +142,12 @@ module _ {A B : Type 0} (answer : ℕ → A) (lent : B) (done : Left A B) where
   unfolding call
   accepted k e h g = rw (sym e ∙ h) g
 
+  -- what a call leaves whose number is 0
+  pub left-done : (k : ℕ) {x : Left A B} → x ≡ call k answer lent done → k ≡ 0 → x ≡ done
+  unfolding call
+  left-done zero e h = e
+  left-done (suc k) e h = absurd (omega arith)
+
 -- Two calls leave the same where one equation says what they leave.
 pub agree : {A : Type 0} {x y z : A} → x ≡ z → y ≡ z → x ≡ y
 agree p q = p ∙ sym q

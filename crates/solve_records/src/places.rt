@@ -31,13 +31,13 @@ pub const THIRD: usize = 38;
 
 pub const MANY: usize = 39;
 
-pub const VECTOR: usize = 40;
+pub const ESTIMATE: usize = 40;
 
-pub const VECTOR_2: usize = 41;
+pub const RESIDUAL: usize = 41;
 
-pub const VECTOR_3: usize = 42;
+pub const OTHER_ESTIMATE: usize = 42;
 
-pub const VECTOR_4: usize = 43;
+pub const OTHER_RESIDUAL: usize = 43;
 
 pub const STARTS: usize = 44;
 
@@ -91,10 +91,10 @@ pub const WEIGHTS: usize = 240;
 
 // Vectors of 12 floats each: those of the recorded answer in the order of the parameters. Of a call that
 // takes vectors alone, those that it is given come first.
-pub const LISTED_VECTOR: usize = 432;
+pub const LISTED_ESTIMATE: usize = 432;
 
-pub const LISTED_VECTOR_2: usize = 528;
+pub const LISTED_RESIDUAL: usize = 528;
 
-pub const LISTED_VECTOR_3: usize = 624;
+pub const LISTED_OTHER_ESTIMATE: usize = 624;
 
-pub const LISTED_VECTOR_4: usize = 720;
+pub const LISTED_OTHER_RESIDUAL: usize = 720;

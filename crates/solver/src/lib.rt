@@ -69,7 +69,7 @@ fn offer_node(
     }
     let at = v as usize;
     let priority = residual[at] / effective(degrees[at]);
-    queue::push_if_threshold(q, priorities, nodes, queued, v, priority)
+    queue::held::offer(q, priorities, nodes, queued, v, priority)
 }
 
 // The node v gets x, and is offered just after.
@@ -246,7 +246,7 @@ fn adapt(adaptive: bool, pushes: u64, q: WorkQueue) -> WorkQueue
     ensures { λ r. ⌜ Adapted adaptive pushes q r ⌝ }
 {
     if adaptive & (pushes % STEP == 0) {
-        queue::adaptive_threshold(q)
+        queue::held::adapt(q)
     } else {
         q
     }
@@ -338,7 +338,7 @@ fn turn<'a>(
         (now (estimate .exit)) (now (residual .exit)) r (now (priorities .exit)) (now (nodes .exit)) (now (queued .exit)) (now (visited .exit)) ⌝ }
 {
     let q = p.queue;
-    let popped = queue::pop(q, priorities, nodes, queued);
+    let popped = queue::held::pop(q, priorities, nodes, queued);
     let queue = popped.queue;
     let node = popped.node;
     let rest = Progress {

@@ -213,10 +213,10 @@ fn agrees_on_lists<'a>(
     let mut residual = [buffers::PATTERN; ROOM];
     let mut other_estimate = [buffers::PATTERN; ROOM];
     let mut other_residual = [buffers::PATTERN; ROOM];
-    let estimate_length = solve_records::lent(bytes, places::VECTOR);
-    let residual_length = solve_records::lent(bytes, places::VECTOR_2);
-    let other_estimate_length = solve_records::lent(bytes, places::VECTOR_3);
-    let other_residual_length = solve_records::lent(bytes, places::VECTOR_4);
+    let estimate_length = solve_records::lent(bytes, places::ESTIMATE);
+    let residual_length = solve_records::lent(bytes, places::RESIDUAL);
+    let other_estimate_length = solve_records::lent(bytes, places::OTHER_ESTIMATE);
+    let other_residual_length = solve_records::lent(bytes, places::OTHER_RESIDUAL);
     let inner = answer_on_rows(
         bytes,
         first,
@@ -230,16 +230,26 @@ fn agrees_on_lists<'a>(
     );
     let solved = inner.solved;
     let done = solved.refusal == 0;
-    let recorded = solve_records::floats(bytes, places::LISTED_VECTOR, 12);
-    let recorded_2 = solve_records::floats(bytes, places::LISTED_VECTOR_2, 12);
-    let recorded_3 = solve_records::floats(bytes, places::LISTED_VECTOR_3, 12);
-    let recorded_4 = solve_records::floats(bytes, places::LISTED_VECTOR_4, 12);
+    let recorded_estimate = solve_records::floats(bytes, places::LISTED_ESTIMATE, 12);
+    let recorded_residual = solve_records::floats(bytes, places::LISTED_RESIDUAL, 12);
+    let recorded_other_estimate = solve_records::floats(bytes, places::LISTED_OTHER_ESTIMATE, 12);
+    let recorded_other_residual = solve_records::floats(bytes, places::LISTED_OTHER_RESIDUAL, 12);
     inner.right
         & solve_records::is_recorded(bytes, solved)
-        & buffers::holds(&estimate, &recorded, estimate_length, done)
-        & buffers::holds(&residual, &recorded_2, residual_length, done)
-        & buffers::holds(&other_estimate, &recorded_3, other_estimate_length, done)
-        & buffers::holds(&other_residual, &recorded_4, other_residual_length, done)
+        & buffers::holds(&estimate, &recorded_estimate, estimate_length, done)
+        & buffers::holds(&residual, &recorded_residual, residual_length, done)
+        & buffers::holds(
+            &other_estimate,
+            &recorded_other_estimate,
+            other_estimate_length,
+            done,
+        )
+        & buffers::holds(
+            &other_residual,
+            &recorded_other_residual,
+            other_residual_length,
+            done,
+        )
 }
 
 // Whether the answer is the recorded one.

@@ -1,9 +1,10 @@
-//! Calls of the entries that take a graph: which there are, what each is given and lent, and what the repaired Rust makes
-//! of it where it is not refused.
+//! Calls of the entries that take a graph: which there are, what each is given and lent, where it is refused, and what the
+//! repaired Rust makes of it where it is not.
 pub mod approach;
 pub mod call;
 pub mod entry;
 pub mod given;
 pub mod outcome;
+pub mod refusal;
 pub mod shape;
 pub mod theirs;

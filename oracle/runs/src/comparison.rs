@@ -1,10 +1,15 @@
 //! Runs kinds of input through both sides. It stops at the first difference, with the smallest input that shows it.
 use std::fmt::Debug;
 use std::process::exit;
+use std::sync::atomic::{AtomicUsize, Ordering::Relaxed};
+use std::thread;
 use std::time::{Duration, Instant};
 
 /// How long a smaller input is looked for.
 const PATIENCE: Duration = Duration::from_secs(40);
+
+/// How many inputs are taken together where they are compared at once.
+const TOGETHER: usize = 256;
 
 pub struct Comparison {
     kinds: usize,
@@ -38,16 +43,53 @@ impl Comparison {
         difference: impl Fn(&I) -> Option<String>,
         smaller: impl Fn(&I) -> Vec<I>,
     ) {
-        let mut count = 0u64;
+        let mut count = 0;
         for input in inputs {
             count += 1;
             if difference(&input).is_some() {
-                let least = smallest(input, &difference, &smaller);
-                println!("{name}: differs after {count} inputs, at the smallest of them {least:?}");
-                println!("  {}", difference(&least).expect("the smallest input differs too"));
-                return self.differs();
+                return self.differing(name, count, input, difference, smaller);
             }
         }
+        self.alike(name, count);
+    }
+
+    /// The same, with as many inputs at once as there are processors: for inputs that each take a process of their own.
+    pub fn kind_at_once<I: Clone + Debug + Sync>(
+        &mut self,
+        name: &str,
+        mut inputs: impl Iterator<Item = I>,
+        difference: impl Fn(&I) -> Option<String> + Sync,
+        smaller: impl Fn(&I) -> Vec<I>,
+    ) {
+        let mut count = 0;
+        loop {
+            let mut some: Vec<I> = inputs.by_ref().take(TOGETHER).collect();
+            if some.is_empty() {
+                return self.alike(name, count);
+            }
+            if let Some(place) = first(&some, |input| difference(input).is_some()) {
+                let input = some.swap_remove(place);
+                return self.differing(name, count + place as u64 + 1, input, difference, smaller);
+            }
+            count += some.len() as u64;
+        }
+    }
+
+    fn differing<I: Clone + Debug>(
+        &mut self,
+        name: &str,
+        count: u64,
+        input: I,
+        difference: impl Fn(&I) -> Option<String>,
+        smaller: impl Fn(&I) -> Vec<I>,
+    ) {
+        let least = smallest(input, &difference, &smaller);
+        println!("{name}: differs after {count} inputs, at the smallest of them {least:?}");
+        println!("  {}", difference(&least).expect("the smallest input differs too"));
+        self.differs();
+    }
+
+    fn alike(&mut self, name: &str, count: u64) {
         println!("{name}: {count} inputs, 0 differences");
         self.kinds += 1;
         self.inputs += count;
@@ -94,6 +136,29 @@ impl Default for Comparison {
     fn default() -> Self {
         Self::new()
     }
+}
+
+/// The first of the inputs that is found, by as many threads as there are processors.
+fn first<I: Sync>(inputs: &[I], found: impl Fn(&I) -> bool + Sync) -> Option<usize> {
+    let (next, least) = (AtomicUsize::new(0), AtomicUsize::new(inputs.len()));
+    let look = || {
+        // Places are handed out in rising order, so that nothing before the least one is left out.
+        loop {
+            let place = next.fetch_add(1, Relaxed);
+            if place >= least.load(Relaxed) {
+                return;
+            }
+            if found(&inputs[place]) {
+                least.fetch_min(place, Relaxed);
+            }
+        }
+    };
+    thread::scope(|scope| {
+        for _ in 0..thread::available_parallelism().map_or(1, usize::from) {
+            scope.spawn(look);
+        }
+    });
+    Some(least.into_inner()).filter(|&place| place < inputs.len())
 }
 
 /// Goes from a differing input to smaller ones that differ too, until none is left, or patience is at an end.

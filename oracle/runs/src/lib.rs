@@ -1,9 +1,10 @@
-//! What the programs `compare`, `measure` and `record` share.
+//! What the programs `compare`, `measure`, `record` and `rust_job` share.
 pub mod calls;
 pub mod comparison;
 // The wrapper's own declarations: what it calls is what is compared.
 #[path = "../../../bindings/rust/src/entries/mod.rs"]
 pub mod entries;
+pub mod jobs;
 pub mod fenced;
 pub mod lent;
 pub mod patterns;

@@ -17,8 +17,8 @@ abbrev μ-loop : tie.MeasureT-loop
 loop-holds : tie.Need-loop-holds Inv-loop μ-loop
 loop-holds c = search needs
 
-push-if-threshold-requires : tie.Need-push-if-threshold-requires Inv-loop μ-loop
-push-if-threshold-requires c κs = search needs
+offer-requires : tie.Need-offer-requires Inv-loop μ-loop
+offer-requires c κs = search needs
 
 add-v : tie.Need-add-v Inv-loop μ-loop
 add-v c = search needs
@@ -28,7 +28,7 @@ loop-less c = search needs
 
 loop-again : tie.Need-loop-again Inv-loop μ-loop
 loop-again c =
-    let h = c .before .before .before .before .before .before .push-if-threshold .ensures .1 in
+    let h = c .before .before .before .before .before .before .offer .ensures .1 in
     let l = c .before .before .before .before .before .before .before .before .before .before .before .loop in
     (record { heap = h .heap; wide = omega (arith, h .same-room, l .inv .0 .wide) }, omega (arith, h .same-words, l .inv .1), omega arith)
 
@@ -51,7 +51,7 @@ offer-up-to-spec =
     Inv-loop
     μ-loop
     loop-holds
-    push-if-threshold-requires
+    offer-requires
     add-v
     loop-less
     loop-again

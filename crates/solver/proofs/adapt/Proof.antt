@@ -6,16 +6,16 @@ use borrow.Author.Needs.{needs}
 use Rattle.solver.proofs.adapt.Statement.{statement}
 use Rattle.solver.proofs.adapt.Tie as tie
 
-adaptive-threshold-requires : tie.Need-adaptive-threshold-requires
-adaptive-threshold-requires c κs = search needs
+adapt-requires : tie.Need-adapt-requires
+adapt-requires c κs = search needs
 
 returns : tie.Need-returns
 unfolding if_then_else_ usual
-returns c = record { threshold-is = rw (c .before .if1 .taken) (c .adaptive-threshold .ensures .0); same-size = c .adaptive-threshold .ensures .1 }
+returns c = record { threshold-is = rw (c .before .if1 .taken) (c .adapt .ensures .0); same-size = c .adapt .ensures .1 }
 
 returns-2 : tie.Need-returns-2
 unfolding if_then_else_ usual
 returns-2 c = record { threshold-is = rw (c .if1 .left); same-size = refl }
 
 pub adapt-spec : {M : Type 1} → statement M
-adapt-spec = tie.close (tie.spec adaptive-threshold-requires returns returns-2)
+adapt-spec = tie.close (tie.spec adapt-requires returns returns-2)

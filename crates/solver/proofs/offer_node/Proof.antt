@@ -37,8 +37,8 @@ shared-slice-read-effective c = search needs
 effective-requires : tie.Need-effective-requires
 effective-requires c κs = search needs
 
-push-if-threshold-requires : tie.Need-push-if-threshold-requires
-push-if-threshold-requires c κs = search needs
+offer-requires : tie.Need-offer-requires
+offer-requires c κs = search needs
 
 same-length-2 : tie.Need-same-length-2
 same-length-2 c = search needs
@@ -53,7 +53,7 @@ returns-2 : tie.Need-returns-2
 returns-2 c =
     let s = c .before .before .before .before .before .before .before .before .before .before .before .before .before .before .before .before .before .before .before .before .before in
     let a = s .args in
-    let o = c .before .before .before .before .before .before .push-if-threshold in
+    let o = c .before .before .before .before .before .before .offer in
     record {
       lent = record { heap = o .ensures .1 .heap; wide = o .ensures .1 .same-room ∙ s .pre .lent .wide; residual-long = s .pre .lent .residual-long };
       state = λ way d. offer-state way _ (a .v) _ (now (a .residual)) (a .q) (o .result) (now (a .priorities)) (now (a .nodes)) (o .last .1 .0) (o .last .1 .1 .0)
@@ -72,7 +72,7 @@ offer-node-spec =
     mul-effective
     shared-slice-read-effective
     effective-requires
-    push-if-threshold-requires
+    offer-requires
     same-length-2
     same-length-3
     same-length-4

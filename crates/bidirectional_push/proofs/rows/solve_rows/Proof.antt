@@ -4,7 +4,8 @@ use denote.Ref.{now}
 use Rattle.solver.specs.States.{watchIn}
 use Rattle.calls.proofs.Directed.{directed-forward, rows-ready, fits-still, degrees-long}
 use Rattle.backward_push.proofs.Turning.{directed-backward}
-use Rattle.bidirectional_push.proofs.Room.{few-listed, fits-again}
+use Rattle.calls.proofs.Fits.{fits-again}
+use Rattle.bidirectional_push.proofs.Room.{few-listed}
 use Rattle.bidirectional_push.proofs.Joining.{method-is, solve-leaves, joined-left}
 use borrow.Author.Needs.{needs}
 use Rattle.bidirectional_push.proofs.rows.solve_rows.Statement.{statement}

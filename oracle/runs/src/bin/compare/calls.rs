@@ -1,5 +1,4 @@
-//! Calls of the entries that take a graph: what each comes to where it is refused, how it is made and compared, and where
-//! calls worth making come from.
+//! Calls of the entries that take a graph: how each is made and compared, and where calls worth making come from.
 pub mod buffer;
 pub mod damaged;
 mod lending;
@@ -7,7 +6,6 @@ pub mod limits;
 pub mod lists;
 pub mod made;
 mod make;
-pub mod refusal;
 pub mod smaller;
 pub mod sound;
 pub mod wishes;

@@ -4,7 +4,6 @@ mod expected;
 
 use crate::Asked;
 use crate::calls::made::Made;
-use crate::calls::refusal::{misread, refusal};
 use crate::calls::smaller::smaller;
 use crate::calls::sound::{MOST_LINKS, MOST_NODES};
 use crate::calls::{damaged, limits, lists};
@@ -13,6 +12,7 @@ use runs::calls::call::Call;
 use runs::calls::entry::{Entry, BUILDERS};
 use runs::calls::given::{graph_of_links, matrix};
 use runs::calls::outcome::Outcome;
+use runs::calls::refusal::{misread, refusal};
 use runs::comparison::Comparison;
 use runs::random::Random;
 

@@ -1,17 +1,19 @@
 //! Compares the proved library with the repaired Rust, input by input.
 //!
-//! compare [full | short] [seed N] [behind | before] [overrun NAME] [store] [forward] [backward] [bidirectional] [planted]
+//! compare [full | short] [seed N] [behind | before] [overrun NAME] [store] [forward] [backward] [bidirectional] [jobs] [planted]
 //!
-//! Without `full` it runs the share that the gate runs. Where parts are named it runs these: `store` is the square root, the
-//! norm, the graph store and the calls on vectors alone. `planted` puts one wrong digit into some of the proved
-//! library's answers, of the square root and then of each call of the solvers, to show that a difference is found: the
-//! program must then fail, and it does so only where each is found.
+//! Without `full` it runs the share that the gate runs. Where parts are named it runs these: `store` is the square
+//! root, the norm, the graph store and the calls on vectors alone, `jobs` the job program as a process. `planted` puts
+//! one wrong digit into some of the proved library's answers, of the square root, of each call of the solvers and of
+//! the job program, to show that a difference is found: the program must then fail, and it does so only where each is
+//! found.
 //!
 //! `behind` puts every list that is lent right before memory that nothing may touch, and `before` right behind such memory, so
 //! that a word read or written outside ends the program. `short` draws a hundredth of the gate's inputs, and no large ones.
 //! `overrun NAME` does what must end it: see `overrun`.
 mod calls;
 mod graph;
+mod jobs;
 mod norm;
 mod overrun;
 mod solves;
@@ -68,21 +70,13 @@ fn main() {
             "overrun" => return overrun::done(&words.next().expect("overrun takes a name")),
             "planted" => asked.planted = true,
             "seed" => asked.seed = words.next().and_then(|n| n.parse().ok()).expect("seed takes a number"),
-            "store" | "forward" | "backward" | "bidirectional" => asked.parts.push(word),
-            _ => panic!("compare [full | short] [seed N] [behind | before] [overrun NAME] [store] [forward] [backward] [bidirectional] [planted]"),
+            "store" | "forward" | "backward" | "bidirectional" | "jobs" => asked.parts.push(word),
+            _ => panic!("compare [full | short] [seed N] [behind | before] [overrun NAME] [store] [forward] [backward] [bidirectional] [jobs] [planted]"),
         }
     }
     let mut random = Random::new(asked.seed);
     if asked.planted {
-        let mut comparison = Comparison::of_planted();
-        square_root::planted(&mut comparison, &mut random);
-        for solver in SOLVERS {
-            solves::planted(solver, &mut comparison, &mut random);
-        }
-        for entry in VECTORS {
-            vectors::planted(entry, &mut comparison, &mut random);
-        }
-        return comparison.finish();
+        return planted(&asked, &mut random);
     }
     let mut comparison = Comparison::new();
     if asked.asks_for("store") {
@@ -95,6 +89,28 @@ fn main() {
     }
     for solver in SOLVERS.into_iter().filter(|solver| asked.asks_for(solver.name())) {
         solves::compare(&asked, solver, &mut comparison, &mut random);
+    }
+    if asked.asks_for("jobs") {
+        jobs::compare(&asked, &mut comparison, &mut random);
+    }
+    comparison.finish();
+}
+
+fn planted(asked: &Asked, random: &mut Random) {
+    let mut comparison = Comparison::of_planted();
+    if asked.asks_for("store") {
+        square_root::planted(&mut comparison, random);
+    }
+    for solver in SOLVERS.into_iter().filter(|solver| asked.asks_for(solver.name())) {
+        solves::planted(solver, &mut comparison, random);
+    }
+    if asked.asks_for("store") {
+        for entry in VECTORS {
+            vectors::planted(entry, &mut comparison, random);
+        }
+    }
+    if asked.asks_for("jobs") {
+        jobs::planted(&mut comparison, random);
     }
     comparison.finish();
 }

@@ -5,15 +5,15 @@ mod boundaries;
 mod expected;
 mod watched;
 
-use adaptive::Layout;
+pub use adaptive::Layout;
 use crate::Asked;
 use crate::calls::made::Made;
-use crate::calls::refusal::{misread, refusal};
 use crate::calls::smaller::smaller;
 use crate::calls::sound::{MOST_LINKS, MOST_NODES, MOST_OF_MANY};
 use crate::calls::{damaged, limits, lists, wishes};
 use runs::calls::call::{Call, Wish};
 use runs::calls::entry::{Entry, Form, Question, Solver, Task};
+use runs::calls::refusal::{misread, refusal};
 use runs::calls::theirs::Theirs;
 use runs::calls::{approach, given};
 use runs::comparison::Comparison;

@@ -2,13 +2,13 @@
 //! Rust's, and against the refusals of docs/RULES.md.
 use crate::Asked;
 use crate::calls::buffer::{outside, unlike_numbers};
-use crate::calls::refusal::alpha_refused;
 use crate::calls::sound::MOST_NODES;
 use crate::calls::wishes::{one_of, ALPHAS};
 use repaired::graph::PushGraph;
 use repaired::solver::backward_push::{BackwardPushConfig, BackwardPushResult, BackwardPushSolver};
 use repaired::solver::forward_push::{ForwardPushConfig, ForwardPushResult, ForwardPushSolver};
 use runs::calls::call::abridged;
+use runs::calls::refusal::alpha_refused;
 use runs::comparison::{same, Comparison};
 use runs::entries;
 use runs::lent::Lent;

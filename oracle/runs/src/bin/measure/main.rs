@@ -1,11 +1,12 @@
 //! Measures the proved library beside the Rust, in one run. A ratio above 1 says that the proved library takes longer.
 //!
-//! measure [once graph | once forward | once backward]
+//! measure [job | once graph | once forward | once backward]
 //!
-//! With `once` each side works once, untimed, for a tool that counts instructions: `graph` builds the largest graph,
-//! `forward` and `backward` solve one of 65,536 nodes and 262,144 links.
+//! With `job` it measures the job program alone. With `once` each side works once, untimed, for a tool that counts
+//! instructions: `graph` builds the largest graph, `forward` and `backward` solve one of 65,536 nodes and 262,144 links.
 mod graph;
 mod heap;
+mod job;
 mod ours;
 mod solves;
 mod space;
@@ -26,10 +27,11 @@ fn main() {
     let words: Vec<&str> = words.iter().map(String::as_str).collect();
     match words[..] {
         [] => measure(&mut random),
+        ["job"] => job::measure(&mut random),
         ["once", "graph"] => graph::once(&mut random),
         ["once", "forward"] => solves::once(&mut random, Call::Forward),
         ["once", "backward"] => solves::once(&mut random, Call::Backward),
-        _ => panic!("measure [once graph | once forward | once backward]"),
+        _ => panic!("measure [job | once graph | once forward | once backward]"),
     }
 }
 
@@ -38,6 +40,7 @@ fn measure(random: &mut Random) {
     norm(random);
     graph::measure(random);
     solves::measure(random);
+    job::measure(random);
 }
 
 /// One call of the square root, against the machine's own instruction.

@@ -1,8 +1,8 @@
 //! Calls that break the conditions of docs/RULES.md: each refusal number, each two at once, and several.
 use runs::calls::call::Call;
 use runs::calls::entry::{Task, Entry};
+use runs::calls::refusal::applies;
 use runs::random::Random;
-use super::refusal::applies;
 use super::sound::{
     buffers, sound, with_length, with_links, with_nodes, MOST_LINKS, MOST_NODES, MOST_OF_MANY, MOST_PUSHES,
 };

@@ -1,9 +1,9 @@
 //! What a solve is given beside its graph: at the limits, a few values of each, or drawn.
 use runs::calls::call::{Call, Wish};
 use runs::calls::entry::{Task, Entry};
+use runs::calls::refusal::refusal;
 use runs::entries::Settings;
 use runs::random::Random;
-use super::refusal::refusal;
 use super::sound::{sound, MOST_PUSHES};
 
 /// Every alpha at a limit or next to one, and every kind that is refused.

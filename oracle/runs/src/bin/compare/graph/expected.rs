@@ -1,10 +1,10 @@
 //! What a call of one of the four entries that build rows is to come to: a refusal, or what the repaired Rust gives.
-use crate::calls::refusal::refusal;
 use repaired::graph::{CompressedSparseRow, PushGraph};
 use runs::calls::call::Call;
 use runs::calls::entry::Entry;
 use runs::calls::given::{graph_of_links, matrix};
 use runs::calls::outcome::{Contents, Outcome, Returned};
+use runs::calls::refusal::refusal;
 use runs::entries::Built;
 
 /// The outcome of a call of any kind.

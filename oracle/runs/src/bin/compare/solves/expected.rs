@@ -1,9 +1,9 @@
 //! What a solve is to come to: a refusal, or what the repaired Rust gives.
-use crate::calls::refusal::refusal;
 use runs::calls::call::Call;
 use runs::calls::entry::Entry;
 use runs::calls::given;
 use runs::calls::outcome::Outcome;
+use runs::calls::refusal::refusal;
 use runs::calls::theirs::Theirs;
 
 /// The outcome of a call of any kind.

@@ -1,8 +1,8 @@
 //! The refusal number of a call, as docs/RULES.md lists them. The Rust has none.
-use runs::calls::call::Call;
-use runs::calls::entry::Task;
-use runs::calls::shape::Shape;
-use runs::entries::Settings;
+use super::call::Call;
+use super::entry::Task;
+use super::shape::Shape;
+use crate::entries::Settings;
 
 /// Whether the condition of a refusal number holds, whatever else does.
 pub fn applies(number: u32, call: &Call) -> bool {

@@ -1,0 +1,5 @@
+//! Jobs, as docs/RULES.md lays them out: the bytes of one, the call that they stand for, the text that the repaired
+//! Rust gives for it, and how a program that reads jobs is run.
+pub mod bytes;
+pub mod program;
+pub mod text;

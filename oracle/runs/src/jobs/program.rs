@@ -1,0 +1,107 @@
+//! Programs that read a job from standard input and print its text, run as processes.
+use std::env;
+use std::fs::{self, File};
+use std::io::{self, ErrorKind, Read, Write};
+use std::path::{Path, PathBuf};
+use std::process::{self, Child, ChildStdin, Command, ExitStatus, Stdio};
+use std::sync::atomic::{AtomicU64, Ordering::Relaxed};
+use std::thread::sleep;
+use std::time::Duration;
+
+/// How long a piece of an input waits for the one before it to be read.
+const PAUSE: Duration = Duration::from_millis(1);
+
+/// How many jobs were files, for their names.
+static FILES: AtomicU64 = AtomicU64::new(0);
+
+/// A program, with what runs it on this processor.
+pub struct Program {
+    words: Vec<PathBuf>,
+}
+
+/// How a job gets to the program.
+#[derive(Clone, Copy, Debug)]
+pub enum Way {
+    /// Through a pipe, at once.
+    Pipe,
+    /// Through a pipe, so many bytes at a time, with a pause after each piece, so that reads end early.
+    Pieces(usize),
+    /// As a file.
+    File,
+}
+
+/// What a program printed, and how it ended.
+pub struct Printed {
+    pub text: Vec<u8>,
+    pub status: ExitStatus,
+}
+
+impl Program {
+    /// The job program, which is for x86-64: on another processor `examples/emulator` names what runs it.
+    pub fn job() -> Self {
+        let emulator = Command::new(root().join("examples/emulator")).output().expect("examples/emulator starts");
+        assert!(emulator.status.success(), "examples/emulator fails");
+        let emulator = String::from_utf8(emulator.stdout).expect("a command in plain letters");
+        let program = root().join("target/bin/job");
+        assert!(program.is_file(), "target/bin/job is missing: run oracle/build");
+        Self { words: emulator.lines().map(PathBuf::from).chain([program]).collect() }
+    }
+
+    /// The repaired Rust behind the same format; where the processor is no x86-64, the script that runs it.
+    pub fn rust_job() -> Self {
+        Self { words: vec![root().join("target/oracle/cargo/release/rust_job")] }
+    }
+
+    pub fn run(&self, bytes: &[u8], way: Way) -> Printed {
+        match way {
+            Way::Pipe => self.fed(|pipe| pipe.write_all(bytes)),
+            Way::Pieces(size) => self.fed(|pipe| {
+                bytes.chunks(size).try_for_each(|piece| {
+                    sleep(PAUSE);
+                    pipe.write_all(piece)
+                })
+            }),
+            Way::File => {
+                let number = FILES.fetch_add(1, Relaxed);
+                let path = env::temp_dir().join(format!("job.{}.{number}", process::id()));
+                fs::write(&path, bytes).expect("a file can be written");
+                let file = File::open(&path).expect("the file is there");
+                fs::remove_file(&path).expect("the file can go while it is open");
+                self.started(file.into()).finished()
+            }
+        }
+    }
+
+    fn fed(&self, feed: impl Fn(&mut ChildStdin) -> io::Result<()>) -> Printed {
+        let mut child = self.started(Stdio::piped());
+        let mut pipe = child.0.stdin.take().expect("a pipe");
+        match feed(&mut pipe) {
+            // A program that has read enough may end before the rest is written.
+            Err(error) if error.kind() != ErrorKind::BrokenPipe => panic!("a job cannot be written: {error}"),
+            _ => drop(pipe),
+        }
+        child.finished()
+    }
+
+    fn started(&self, input: Stdio) -> Started {
+        let mut command = Command::new(&self.words[0]);
+        command.args(&self.words[1..]).stdin(input).stdout(Stdio::piped());
+        Started(command.spawn().expect("the program starts"))
+    }
+}
+
+/// A program that has been started.
+struct Started(Child);
+
+impl Started {
+    fn finished(mut self) -> Printed {
+        let mut text = Vec::new();
+        self.0.stdout.take().expect("a pipe").read_to_end(&mut text).expect("the text can be read");
+        Printed { text, status: self.0.wait().expect("the program ends") }
+    }
+}
+
+/// The folder of the whole project.
+fn root() -> &'static Path {
+    Path::new(concat!(env!("CARGO_MANIFEST_DIR"), "/../.."))
+}
