@@ -8,7 +8,7 @@ use Rattle.norm.specs.Norm.{Norm, addSquares}
 use Rattle.norm.proofs.Unique.{unique}
 use Rattle.rules.specs.Answers.{visitedCount}
 use Rattle.job_text.specs.Text.{doneLine, nodeLines}
-use Rattle.jobs.specs.Jobs.{Job, end, told, Prints, prints}
+use Rattle.jobs.specs.Jobs.{Job, end, told, prints}
 
 -- by the first number
 one-told : (number : ℕ) (j : Job) (p q : Float) → (number ≡ 0 → Norm (end j .residual) p) → (number ≡ 0 → Norm (end j .residual) q)

@@ -6,7 +6,6 @@ use lib.ListN.{take, drop}
 use lib.Ieee.{Float, nan}
 use Rattle.numbers.specs.Numbers.{+0}
 use Rattle.graph.specs.Rows.{linksOf}
-use Rattle.rules.specs.Ways.{forward, overLinks}
 use Rattle.rules.specs.Rules.{at, unwatched}
 use Rattle.rules.specs.Reach.{Reached, Untouched, keptLinks}
 use Rattle.rules.proofs.Lengths.{Sized, solve-sized}
