@@ -1,12 +1,12 @@
 //! Compares the proved library with the repaired Rust, input by input.
 //!
-//! compare [full | short] [seed N] [behind | before] [overrun NAME] [store] [forward] [backward] [bidirectional] [jobs] [planted]
+//! compare [full | short] [seed N] [for MINUTES] [behind | before] [overrun NAME] [store] [forward] [backward] [bidirectional] [jobs] [planted]
 //!
 //! Without `full` it runs the share that the gate runs. Where parts are named it runs these: `store` is the square
 //! root, the norm, the graph store and the calls on vectors alone, `jobs` the job program as a process. `planted` puts
 //! one wrong digit into some of the proved library's answers, of the square root, of each call of the solvers and of
 //! the job program, to show that a difference is found: the program must then fail, and it does so only where each is
-//! found.
+//! found. With `for` it begins anew with the next seed, part by part, until so many minutes are over.
 //!
 //! `behind` puts every list that is lent right before memory that nothing may touch, and `before` right behind such memory, so
 //! that a word read or written outside ends the program. `short` draws a hundredth of the gate's inputs, and no large ones.
@@ -25,7 +25,9 @@ use runs::comparison::Comparison;
 use runs::fenced::Fence;
 use runs::lent;
 use runs::random::Random;
+use std::time::{Duration, Instant};
 
+const PARTS: [&str; 5] = ["store", "forward", "backward", "bidirectional", "jobs"];
 const SOLVERS: [Solver; 3] = [Solver::Forward, Solver::Backward, Solver::Bidirectional];
 const VECTORS: [vectors::Entry; 2] = [vectors::Entry::Extrapolated, vectors::Entry::Combined];
 
@@ -35,6 +37,8 @@ pub struct Asked {
     pub short: bool,
     pub planted: bool,
     pub seed: u64,
+    /// How long it begins anew.
+    time: Duration,
     /// The parts that are named: none stand for all.
     pub parts: Vec<String>,
 }
@@ -59,7 +63,7 @@ impl Asked {
 }
 
 fn main() {
-    let mut asked = Asked { full: false, short: false, planted: false, seed: 1, parts: Vec::new() };
+    let mut asked = Asked { full: false, short: false, planted: false, seed: 1, time: Duration::ZERO, parts: Vec::new() };
     let mut words = std::env::args().skip(1);
     while let Some(word) = words.next() {
         match word.as_str() {
@@ -69,31 +73,53 @@ fn main() {
             "before" => lent::fence(Fence::Before),
             "overrun" => return overrun::done(&words.next().expect("overrun takes a name")),
             "planted" => asked.planted = true,
-            "seed" => asked.seed = words.next().and_then(|n| n.parse().ok()).expect("seed takes a number"),
-            "store" | "forward" | "backward" | "bidirectional" | "jobs" => asked.parts.push(word),
-            _ => panic!("compare [full | short] [seed N] [behind | before] [overrun NAME] [store] [forward] [backward] [bidirectional] [jobs] [planted]"),
+            "seed" => asked.seed = number(&mut words, "seed"),
+            "for" => asked.time = Duration::from_secs(60 * number(&mut words, "for")),
+            part if PARTS.contains(&part) => asked.parts.push(word),
+            _ => panic!("compare [full | short] [seed N] [for MINUTES] [behind | before] [overrun NAME] [store] [forward] [backward] [bidirectional] [jobs] [planted]"),
         }
     }
-    let mut random = Random::new(asked.seed);
     if asked.planted {
-        return planted(&asked, &mut random);
+        return planted(&asked, &mut Random::new(asked.seed));
     }
+    let began = Instant::now();
     let mut comparison = Comparison::new();
-    if asked.asks_for("store") {
-        square_root::compare(&asked, &mut comparison, &mut random);
-        norm::compare(&asked, &mut comparison, &mut random);
-        graph::compare(&asked, &mut comparison, &mut random);
-        for entry in VECTORS {
-            vectors::compare(&asked, entry, &mut comparison, &mut random);
+    loop {
+        let mut random = Random::new(asked.seed);
+        for part in PARTS.into_iter().filter(|part| asked.asks_for(part)) {
+            compare(&asked, part, &mut comparison, &mut random);
+            if began.elapsed() >= asked.time && asked.time > Duration::ZERO {
+                return comparison.finish();
+            }
+        }
+        if began.elapsed() >= asked.time {
+            return comparison.finish();
+        }
+        asked.seed += 1;
+    }
+}
+
+fn number(words: &mut impl Iterator<Item = String>, word: &str) -> u64 {
+    words.next().and_then(|n| n.parse().ok()).unwrap_or_else(|| panic!("{word} takes a number"))
+}
+
+fn compare(asked: &Asked, part: &str, comparison: &mut Comparison, random: &mut Random) {
+    match part {
+        "store" => {
+            square_root::compare(asked, comparison, random);
+            norm::compare(asked, comparison, random);
+            graph::compare(asked, comparison, random);
+            for entry in VECTORS {
+                vectors::compare(asked, entry, comparison, random);
+            }
+        }
+        "jobs" => jobs::compare(asked, comparison, random),
+        _ => {
+            for solver in SOLVERS.into_iter().filter(|solver| solver.name() == part) {
+                solves::compare(asked, solver, comparison, random);
+            }
         }
     }
-    for solver in SOLVERS.into_iter().filter(|solver| asked.asks_for(solver.name())) {
-        solves::compare(&asked, solver, &mut comparison, &mut random);
-    }
-    if asked.asks_for("jobs") {
-        jobs::compare(&asked, &mut comparison, &mut random);
-    }
-    comparison.finish();
 }
 
 fn planted(asked: &Asked, random: &mut Random) {
