@@ -1,5 +1,4 @@
 //! A random graph as both sides take it, and the work of every entry on it.
-use crate::keep;
 use crate::ours::Ours;
 use crate::table;
 use crate::theirs::{Done, Theirs};
@@ -60,25 +59,25 @@ impl Given {
         table::size(self.nodes, self.edges.len())
     }
 
-    /// The entry's work on this graph, its time for each link, or for each push of a solve.
+    /// The entry's work on this graph.
     pub fn work(&self, entry: Entry) -> Work<'_> {
         let wish = self.wish_of(entry);
         let mut ours = self.ours(entry, &wish);
-        let (mine, other) = (ours.make(), self.theirs(entry, &wish));
-        assert!(mine.agrees(&other), "{}: {mine:?} against {other:?}", entry.name());
-        let pushes = match entry {
-            Entry::Solve(question, _) => Some(self.pushes(question, &wish)),
-            _ => None,
-        };
-        let mut labels = vec![table::name(&entry.name()), self.size()];
-        labels.extend(pushes.map(table::grouped));
         Work {
-            labels,
-            units: pushes.unwrap_or(self.edges.len()),
+            labels: vec![table::name(&entry.name()), self.size()],
+            units: 1,
             lent: ours.lent(),
-            ours: Box::new(move || keep(ours.make())),
-            theirs: Box::new(move || keep(self.theirs(entry, &wish))),
+            ours: Box::new(move || ours.make()),
+            theirs: Box::new(move || self.theirs(entry, &wish)),
         }
+    }
+
+    /// The same, its time for each link, or for each push of a solve.
+    pub fn divided(&self, entry: Entry) -> Work<'_> {
+        let work = self.work(entry);
+        let Entry::Solve(question, _) = entry else { return Work { units: self.edges.len(), ..work } };
+        let pushes = self.pushes(question, &self.wish_of(entry));
+        Work { labels: [work.labels, vec![table::grouped(pushes)]].concat(), units: pushes, ..work }
     }
 
     /// A call of the proved library.
@@ -95,16 +94,15 @@ impl Given {
     /// The Rust's side, from links or rows to the answer.
     fn theirs(&self, entry: Entry, wish: &Wish) -> Done {
         match entry {
-            Entry::FromEdges => keep(self.from_links()),
-            Entry::FromMatrix => keep(self.from_rows()),
-            Entry::Transpose => keep(black_box(self.matrix()).transpose()),
-            Entry::RowSums => keep(black_box(self.matrix()).row_sums()),
+            Entry::FromEdges => Done::listed(self.from_links()),
+            Entry::FromMatrix => Done::listed(self.from_rows()),
+            Entry::Transpose => Done::listed(black_box(self.matrix()).transpose()),
+            Entry::RowSums => Done::listed(black_box(self.matrix()).row_sums()),
             Entry::Solve(question, form) => {
                 let graph = if form == Form::Links { self.from_links() } else { self.from_rows() };
-                return Theirs::new(question.solver, graph, wish).solve(wish, question.task);
+                Theirs::new(question.solver, graph, wish).solve(wish, question.task)
             }
         }
-        Done { pushes: 0, number: 0.0 }
     }
 
     pub fn from_links(&self) -> PushGraph {
@@ -116,7 +114,7 @@ impl Given {
     }
 
     /// What an entry is asked. A watched node is one that is linked with the one at which the solve begins, and is precise
-    /// enough at half its score.
+    /// enough close to its score.
     fn wish_of(&self, entry: Entry) -> Wish {
         let mut wish = self.wish.clone();
         if let Entry::Solve(Question { solver, task: Task::Watched }, _) = entry {
@@ -128,7 +126,7 @@ impl Given {
             let &(from, to, _) = self.edges.iter().find(linked).expect("a linked node");
             (wish.source, wish.target) = (from as u32, to as u32);
             let scores = self.one_way(solver, Task::Single, &wish).estimate;
-            wish.precision = scores[if solver == Solver::Forward { to } else { from }] / 2.0;
+            wish.precision = scores[if solver == Solver::Forward { to } else { from }] * 0.99;
         }
         wish
     }

@@ -2,6 +2,7 @@
 use crate::given::Given;
 use crate::keep;
 use crate::table;
+use crate::theirs::Done;
 use crate::work::{Work, COLUMNS};
 use runs::calls::entry::{Entry, BUILDERS};
 
@@ -16,7 +17,7 @@ pub fn measure(given: &[Given; 3]) {
     }
     for entry in BUILDERS {
         for (given, rounds) in sizes() {
-            given.work(entry).print(rounds);
+            given.divided(entry).print(rounds);
         }
     }
 }
@@ -33,8 +34,8 @@ pub fn whole(given: &Given) -> Work<'_> {
         lent,
         ours: Box::new(move || {
             keep(rows.make());
-            keep(reverse.make_on(&rows));
+            reverse.make_on(&rows)
         }),
-        theirs: Box::new(move || keep(given.from_links())),
+        theirs: Box::new(move || Done::listed(given.from_links())),
     }
 }

@@ -34,10 +34,7 @@ fn series(title: &str, what: &str, sizes: Vec<(usize, usize)>, along: fn((usize,
             let mut given = Given::new(nodes, links);
             given.wish.settings = all_of(PUSHES);
             given.wish.backward_settings = all_of(PUSHES);
-            let mut work = given.work(entry);
-            work.units = 1;
-            work.labels.truncate(2);
-            let timed = work.print(ROUNDS);
+            let timed = given.work(entry).print(ROUNDS);
             ours.points.push((along((nodes, links)), timed.ours));
             theirs.points.push((along((nodes, links)), timed.theirs));
         }

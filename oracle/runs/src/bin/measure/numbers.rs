@@ -1,6 +1,6 @@
 //! The calls that take no graph: the square root, the norm, and the two that take a solve's vectors.
-use crate::keep;
 use crate::table;
+use crate::theirs::Done;
 use crate::work::{Work, COLUMNS};
 use repaired::graph::PushGraph;
 use repaired::solver::backward_push::{BackwardPushResult, BackwardPushSolver};
@@ -43,8 +43,8 @@ pub fn work(name: &str, size: usize) -> Work<'static> {
                 labels,
                 units: ROOTS,
                 lent: 0,
-                ours: Box::new(move || numbers.iter().for_each(|&x| keep(entries::square_root(black_box(x))))),
-                theirs: Box::new(move || same.iter().for_each(|&x| keep(black_box(x).sqrt()))),
+                ours: Box::new(move || Done::number(numbers.iter().map(|&x| entries::square_root(black_box(x))).sum())),
+                theirs: Box::new(move || Done::number(same.iter().map(|&x| black_box(x).sqrt()).sum())),
             }
         }
         "compute_residual_norm" => {
@@ -53,8 +53,8 @@ pub fn work(name: &str, size: usize) -> Work<'static> {
                 labels,
                 units: 1,
                 lent: 0,
-                ours: Box::new(move || keep(entries::compute_residual_norm(black_box(&residual)))),
-                theirs: Box::new(move || keep(black_box(&same).iter().map(|&x| x * x).sum::<f64>().sqrt())),
+                ours: Box::new(move || Done::number(entries::compute_residual_norm(black_box(&residual)))),
+                theirs: Box::new(move || Done::number(black_box(&same).iter().map(|&x| x * x).sum::<f64>().sqrt())),
             }
         }
         "extrapolated_solution" => {
@@ -66,9 +66,9 @@ pub fn work(name: &str, size: usize) -> Work<'static> {
                 units: 1,
                 lent: 8 * size,
                 ours: Box::new(move || {
-                    keep(entries::extrapolated_solution(&estimate_too, &residual_too, alpha, &mut solution));
+                    Done::listed(entries::extrapolated_solution(&estimate_too, &residual_too, alpha, &mut solution))
                 }),
-                theirs: Box::new(move || keep(solver.extrapolated_solution(black_box(&result)))),
+                theirs: Box::new(move || Done::listed(solver.extrapolated_solution(black_box(&result)))),
             }
         }
         "combine_with_forward" => {
@@ -81,10 +81,12 @@ pub fn work(name: &str, size: usize) -> Work<'static> {
                 units: 1,
                 lent: 0,
                 ours: Box::new(move || {
-                    keep(entries::combine_with_forward(&estimate_too, &residual_too, &forward_too, &rest_too, alpha));
+                    let (backward, rest) = (&estimate_too, &residual_too);
+                    Done::number(entries::combine_with_forward(backward, rest, &forward_too, &rest_too, alpha).score)
                 }),
                 theirs: Box::new(move || {
-                    keep(solver.combine_with_forward(black_box(&result), &forward_estimate, &forward_residual));
+                    let (estimate, residual) = (&forward_estimate, &forward_residual);
+                    Done::number(solver.combine_with_forward(black_box(&result), estimate, residual))
                 }),
             }
         }

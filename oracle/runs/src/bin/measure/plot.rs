@@ -20,10 +20,10 @@ pub struct Line {
 }
 
 /// The whole drawing, and where in it the axes are.
-const WIDTH: f64 = 960.0;
+const WIDTH: f64 = 1000.0;
 const HEIGHT: f64 = 560.0;
 const LEFT: f64 = 80.0;
-const RIGHT: f64 = 660.0;
+const RIGHT: f64 = 700.0;
 const TOP: f64 = 50.0;
 const BOTTOM: f64 = 490.0;
 
@@ -81,14 +81,13 @@ impl Plot<'_> {
 
 impl Line {
     fn draw(&self, svg: &mut String, across: &Axis, up: &Axis) {
-        let mut path = Vec::new();
-        for (size, time) in &self.points {
-            let (x, y) = (across.place(*size as f64), up.place(time.median));
+        let place = |(size, time): &(usize, Spread)| (across.place(*size as f64), up.place(time.median));
+        let path: Vec<_> = self.points.iter().map(place).collect();
+        self.stroke(svg, &path);
+        for ((_, time), (x, y)) in self.points.iter().zip(path) {
             rule(svg, (x, up.place(time.low)), (x, up.place(time.high)), self.colour);
             self.mark(svg, (x, y));
-            path.push((x, y));
         }
-        self.stroke(svg, &path);
     }
 
     /// Its line of the legend.

@@ -12,7 +12,7 @@ use runs::timing::{elapsed, interleaved_times, Timed};
 
 /// Rounds of the calls that say most, and of the others, which do much the same work, at each size.
 const ROUNDS: [usize; 3] = [31, 15, 11];
-const FEWER_ROUNDS: [usize; 3] = [11, 0, 7];
+const FEWER_ROUNDS: [usize; 3] = [15, 0, 9];
 
 pub const SOLVERS: [Solver; 3] = [Solver::Forward, Solver::Backward, Solver::Bidirectional];
 
@@ -24,7 +24,7 @@ pub fn measure(given: &[Given; 3]) {
             _ => FEWER_ROUNDS,
         };
         for (given, rounds) in given.iter().zip(rounds).filter(|(_, rounds)| *rounds > 0) {
-            given.work(entry).print(rounds);
+            given.divided(entry).print(rounds);
         }
     }
 

@@ -33,14 +33,12 @@ impl Theirs {
     /// The one call of the Rust that a task stands for.
     pub fn solve(&self, wish: &Wish, task: Task) -> Done {
         let (source, target) = (wish.source as usize, wish.target as usize);
-        let scored = |number: f64| Done { pushes: 0, number };
         match (self, task) {
-            (Self::Both(solver), Task::Adaptive) => scored(solver.adaptive_solve(source, target)),
-            (Self::Both(solver), _) => scored(solver.solve_bidirectional(source, target)),
-            (Self::OneWay(solver), Task::Query) => scored(solver.score(wish)),
+            (Self::Both(solver), Task::Adaptive) => Done::number(solver.adaptive_solve(source, target)),
+            (Self::Both(solver), _) => Done::number(solver.solve_bidirectional(source, target)),
+            (Self::OneWay(solver), Task::Query) => Done::number(solver.score(wish)),
             (Self::OneWay(OneWay::Backward(solver)), Task::Reachability) => {
-                keep(solver.reachability_probabilities(target));
-                scored(0.0)
+                Done::listed(solver.reachability_probabilities(target))
             }
             (Self::OneWay(solver), _) => {
                 let run = solver.solved(wish, task);
@@ -51,6 +49,16 @@ impl Theirs {
 }
 
 impl Done {
+    /// What comes to a list, which nothing reads.
+    pub fn listed<T>(list: T) -> Self {
+        keep(list);
+        Self::number(0.0)
+    }
+
+    pub fn number(number: f64) -> Self {
+        Self { pushes: 0, number }
+    }
+
     /// Both sides have done the same work.
     pub fn agrees(&self, other: &Self) -> bool {
         (self.pushes, self.number.to_bits()) == (other.pushes, other.number.to_bits())

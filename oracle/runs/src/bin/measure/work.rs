@@ -1,6 +1,8 @@
 //! One piece of work that both sides do: how long it takes them, what memory it takes them, and that they come to the same.
 use crate::heap::peak;
+use crate::keep;
 use crate::table;
+use crate::theirs::Done;
 use runs::timing::{interleaved, Timed};
 
 pub struct Work<'a> {
@@ -10,17 +12,19 @@ pub struct Work<'a> {
     pub units: usize,
     /// The bytes that the proved library is lent to write.
     pub lent: usize,
-    pub ours: Box<dyn FnMut() + 'a>,
-    pub theirs: Box<dyn FnMut() + 'a>,
+    pub ours: Box<dyn FnMut() -> Done + 'a>,
+    pub theirs: Box<dyn FnMut() -> Done + 'a>,
 }
 
 /// The columns of a table of works, behind those that are the table's own.
 pub const COLUMNS: [&str; 6] = ["rounds", "proved library", "Rust", "ratio", "bytes lent", "Rust's peak heap"];
 
 impl Work<'_> {
-    /// Prints its line of a table.
+    /// Sees that both sides come to the same, and prints its line of a table.
     pub fn print(mut self, rounds: usize) -> Timed {
-        let timed = interleaved(rounds, self.units, &mut self.ours, &mut self.theirs);
+        let (ours, theirs) = ((self.ours)(), (self.theirs)());
+        assert!(ours.agrees(&theirs), "{}: {ours:?} against {theirs:?}", self.labels[0]);
+        let timed = interleaved(rounds, self.units, || keep((self.ours)()), || keep((self.theirs)()));
         let mut cells = self.labels;
         cells.push(table::grouped(rounds));
         cells.extend(table::sides(&timed));
@@ -32,10 +36,10 @@ impl Work<'_> {
     /// Lets one side work, or both, or neither: for a tool that counts instructions.
     pub fn once(mut self, side: &str) {
         if matches!(side, "ours" | "both") {
-            (self.ours)();
+            keep((self.ours)());
         }
         if matches!(side, "theirs" | "both") {
-            (self.theirs)();
+            keep((self.theirs)());
         }
     }
 }
