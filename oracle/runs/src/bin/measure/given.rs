@@ -27,6 +27,12 @@ pub fn drawn(random: &mut Random, nodes: u64, links: usize) -> Vec<(usize, usize
     (0..links).map(|_| (random.below(nodes) as usize, random.below(nodes) as usize, random.unit())).collect()
 }
 
+/// A call of the proved library on links.
+pub fn on_links(nodes: usize, edges: &[(usize, usize, f64)]) -> Call {
+    let narrow: Vec<_> = edges.iter().map(|&(from, to, weight)| (from as u32, to as u32, weight)).collect();
+    Call::on_links(nodes as u32, &narrow)
+}
+
 impl Given {
     /// The graph of a size is the same in every run. Solves of it begin at the first node that links to another, which is
     /// node 0 in all but the sparsest, and at a target of so low a degree that an adaptive solve pushes backward alone,
@@ -51,7 +57,7 @@ impl Given {
         Self { nodes, edges, graph, wish }
     }
 
-    pub fn matrix(&self) -> &CompressedSparseRow {
+    fn matrix(&self) -> &CompressedSparseRow {
         &self.graph.adjacency
     }
 
@@ -85,8 +91,7 @@ impl Given {
         let call = if entry.takes_rows() {
             Call::on_matrix(entry, self.matrix())
         } else {
-            let links: Vec<_> = self.edges.iter().map(|edge| (edge.0 as u32, edge.1 as u32, edge.2)).collect();
-            Call { entry, ..Call::on_links(self.nodes as u32, &links) }.with_stated_lengths()
+            Call { entry, ..on_links(self.nodes, &self.edges) }.with_stated_lengths()
         };
         Ours::new(call.wishing(wish.clone()))
     }

@@ -28,7 +28,8 @@ fn series(title: &str, what: &str, sizes: Vec<(usize, usize)>, along: fn((usize,
     let solves = SOLVERS.map(|solver: Solver| Entry::Solve(solver.first_question(), Form::Links));
     let mut lines = Vec::new();
     for (entry, colour) in [Entry::FromEdges].into_iter().chain(solves).zip(COLOURS) {
-        let side = |side: &str, dashed: bool| Line { name: format!("{}, {side}", entry.name()), colour, dashed, points: vec![] };
+        let named = |side: &str| format!("{}, {side}", entry.name());
+        let side = |side: &str, dashed: bool| Line { name: named(side), colour, dashed, points: Vec::new() };
         let (mut ours, mut theirs) = (side("proved", false), side("Rust", true));
         for &(nodes, links) in &sizes {
             let mut given = Given::new(nodes, links);

@@ -1,6 +1,6 @@
 //! The job program beside the repaired Rust behind the same format, both as processes: from the start of one to its
 //! end.
-use crate::given::drawn;
+use crate::given::{drawn, on_links};
 use crate::keep;
 use crate::table;
 use runs::calls::call::{Call, Wish};
@@ -26,9 +26,7 @@ pub fn largest() -> Vec<u8> {
 }
 
 fn graph() -> Call {
-    let links = drawn(&mut Random::new(1), u64::from(MOST_NODES), MOST_LINKS);
-    let narrow: Vec<_> = links.into_iter().map(|(from, to, weight)| (from as u32, to as u32, weight)).collect();
-    Call::on_links(MOST_NODES, &narrow)
+    on_links(MOST_NODES as usize, &drawn(&mut Random::new(1), u64::from(MOST_NODES), MOST_LINKS))
 }
 
 /// The bytes of a job that solves from node 0.
@@ -41,7 +39,8 @@ fn of_job(name: &str, bytes: &[u8]) {
     let text = |program: &Program| String::from_utf8(program.run(bytes, Way::Pipe).text).expect("a plain text");
     let printed = text(&ours);
     assert_eq!(printed, text(&theirs), "both sides print the same");
-    let pushes = printed.split(' ').nth(1).and_then(|word| word.parse().ok()).expect("the pushes of a job that is done");
+    let word = printed.split(' ').nth(1).expect("a job that is done");
+    let pushes = word.parse().expect("its pushes");
     let run = |program: &Program| keep(program.run(bytes, Way::Pipe));
     let timed = interleaved(ROUNDS, 1, || run(&ours), || run(&theirs));
     let labels = [name.to_string(), table::grouped(pushes), table::grouped(ROUNDS)];

@@ -8,10 +8,11 @@ pub fn described(measure: impl FnOnce()) {
     let start = Instant::now();
     let processor = after_colon("/proc/cpuinfo", "model name").unwrap_or("a processor that gives no name".to_string());
     let cores = available_parallelism().map_or(1, usize::from);
-    println!("{processor}, {cores} cores{}, {}.", caches(), env!("COMPILER"));
-    println!("Load before: {}.", load());
+    println!("Measured on {processor}, {cores} cores{}, {}.", caches(), env!("COMPILER"));
+    println!("Load at the start: {}.", load());
     measure();
-    println!("\nLoad behind: {}. This took {:.1} minutes.", load(), start.elapsed().as_secs_f64() / 60.0);
+    let minutes = start.elapsed().as_secs_f64() / 60.0;
+    println!("\nLoad at the end, this program's own among it: {}. It took {minutes:.1} minutes.", load());
 }
 
 fn after_colon(path: &str, field: &str) -> Option<String> {
@@ -29,7 +30,7 @@ fn caches() -> String {
     [of(0, "first"), of(2, "second"), of(3, "third")].concat()
 }
 
-/// How many programs wanted a core, in the last minute and in the last quarter of an hour; this one counts as one.
+/// How many programs wanted a core, in the last minute and in the last quarter of an hour.
 fn load() -> String {
     let text = fs::read_to_string("/proc/loadavg").unwrap_or_default();
     match text.split(' ').collect::<Vec<_>>()[..] {

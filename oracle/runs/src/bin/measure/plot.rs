@@ -101,8 +101,8 @@ impl Line {
     fn stroke(&self, svg: &mut String, path: &[(f64, f64)]) {
         let path: Vec<String> = path.iter().map(|(x, y)| format!("{x:.1},{y:.1}")).collect();
         let dashes = if self.dashed { " stroke-dasharray=\"6 4\"" } else { "" };
-        let (path, colour) = (path.join(" "), self.colour);
-        append(svg, format_args!("<polyline points=\"{path}\" fill=\"none\" stroke=\"{colour}\" stroke-width=\"2\"{dashes}/>"));
+        let (path, pen) = (path.join(" "), format!("stroke=\"{}\" stroke-width=\"2\"{dashes}", self.colour));
+        append(svg, format_args!("<polyline points=\"{path}\" fill=\"none\" {pen}/>"));
     }
 
     /// A full circle for a full line, an empty one for a dashed line.
