@@ -1,9 +1,11 @@
-//! Calls of the entries that take a graph: which there are, what each is given and lent, where it is refused, and what the
-//! repaired Rust makes of it where it is not.
+//! Calls of the entries that take a graph: which there are, what each is given and lent, how it is made, where it is refused,
+//! and what the repaired Rust makes of it where it is not.
 pub mod approach;
 pub mod call;
 pub mod entry;
 pub mod given;
+pub mod lending;
+pub mod make;
 pub mod outcome;
 pub mod refusal;
 pub mod shape;

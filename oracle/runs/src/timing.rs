@@ -1,17 +1,22 @@
 //! Times two sides in turn, in one run, so that what else the machine does meets both.
 use std::time::{Duration, Instant};
 
-/// Nanoseconds of `ours` and of `theirs` for each unit of work, and how many times as long ours takes.
-pub struct Timed {
-    pub ours: f64,
-    pub theirs: f64,
-    pub ratio: f64,
+/// A median, and the tenth and the ninetieth hundredth around it.
+#[derive(Clone, Copy)]
+pub struct Spread {
     pub low: f64,
+    pub median: f64,
     pub high: f64,
 }
 
-/// Runs both sides `rounds` times, the one that goes first by turns. Each figure is a median; `low` and `high` are the
-/// tenth and the ninetieth hundredth of the ratio.
+/// Nanoseconds of `ours` and of `theirs` for each unit of work, and how many times as long ours takes.
+pub struct Timed {
+    pub ours: Spread,
+    pub theirs: Spread,
+    pub ratio: Spread,
+}
+
+/// Runs both sides `rounds` times, the one that goes first by turns.
 pub fn interleaved(rounds: usize, units: usize, mut ours: impl FnMut(), mut theirs: impl FnMut()) -> Timed {
     interleaved_times(rounds, units, || elapsed(&mut ours), || elapsed(&mut theirs))
 }
@@ -34,14 +39,8 @@ pub fn interleaved_times(
             first.push(per_unit(ours()));
         }
     }
-    let ratios: Vec<f64> = first.iter().zip(&second).map(|(a, b)| a / b).collect();
-    Timed {
-        ours: hundredth(&first, 50),
-        theirs: hundredth(&second, 50),
-        ratio: hundredth(&ratios, 50),
-        low: hundredth(&ratios, 10),
-        high: hundredth(&ratios, 90),
-    }
+    let ratios = first.iter().zip(&second).map(|(a, b)| a / b).collect();
+    Timed { ours: Spread::of(first), theirs: Spread::of(second), ratio: Spread::of(ratios) }
 }
 
 /// How long the work takes.
@@ -51,18 +50,10 @@ pub fn elapsed(mut work: impl FnMut()) -> Duration {
     start.elapsed()
 }
 
-fn hundredth(values: &[f64], part: usize) -> f64 {
-    let mut sorted = values.to_vec();
-    sorted.sort_by(f64::total_cmp);
-    sorted[(sorted.len() - 1) * part / 100]
-}
-
-impl std::fmt::Display for Timed {
-    fn fmt(&self, out: &mut std::fmt::Formatter<'_>) -> std::fmt::Result {
-        write!(
-            out,
-            "{:.2} ns against {:.2} ns, ratio {:.2} ({:.2} to {:.2})",
-            self.ours, self.theirs, self.ratio, self.low, self.high
-        )
+impl Spread {
+    fn of(mut values: Vec<f64>) -> Self {
+        values.sort_by(f64::total_cmp);
+        let hundredth = |part: usize| values[(values.len() - 1) * part / 100];
+        Self { low: hundredth(10), median: hundredth(50), high: hundredth(90) }
     }
 }

@@ -29,7 +29,7 @@ pub struct Run {
     pub residual: Vec<f64>,
     pub push_count: usize,
     nodes_visited: usize,
-    residual_norm: f64,
+    pub residual_norm: f64,
 }
 
 impl From<ForwardPushResult> for Run {
@@ -106,7 +106,8 @@ impl Theirs {
         }
     }
 
-    fn score(&self, wish: &Wish) -> f64 {
+    /// What the Rust's query one way gives.
+    pub fn score(&self, wish: &Wish) -> f64 {
         let (source, target) = (wish.source as usize, wish.target as usize);
         match self {
             Self::Forward(solver) => solver.query_single_entry(source, target),

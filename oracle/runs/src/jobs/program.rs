@@ -102,6 +102,6 @@ impl Started {
 }
 
 /// The folder of the whole project.
-fn root() -> &'static Path {
+pub fn root() -> &'static Path {
     Path::new(concat!(env!("CARGO_MANIFEST_DIR"), "/../.."))
 }

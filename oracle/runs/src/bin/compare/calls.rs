@@ -1,11 +1,9 @@
 //! Calls of the entries that take a graph: how each is made and compared, and where calls worth making come from.
 pub mod buffer;
 pub mod damaged;
-mod lending;
 pub mod limits;
 pub mod lists;
 pub mod made;
-mod make;
 pub mod smaller;
 pub mod sound;
 pub mod wishes;

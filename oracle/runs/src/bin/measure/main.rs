@@ -1,70 +1,85 @@
-//! Measures the proved library beside the Rust, in one run. A ratio above 1 says that the proved library takes longer.
+//! Measures the proved library beside the Rust, in one run, and prints tables in Markdown. A ratio above 1 says that the
+//! proved library takes longer.
 //!
-//! measure [job | once graph | once forward | once backward]
+//! measure [calls | job | growth | names | once NAME [ours | theirs | neither]]
 //!
-//! With `job` it measures the job program alone. With `once` each side works once, untimed, for a tool that counts
-//! instructions: `graph` builds the largest graph, `forward` and `backward` solve one of 65,536 nodes and 262,144 links.
+//! Without a word it measures everything: each call by itself, the job program, and growth with nodes and with links,
+//! which draws docs/growth-nodes.svg and docs/growth-links.svg. With `once` both sides work once, untimed, or one of them,
+//! or neither, for a tool that counts instructions: NAME is one of those that `names` prints. `once job` prints a job at its
+//! limits, for `job` and `rust_job` to read.
+mod given;
 mod graph;
+mod growth;
 mod heap;
 mod job;
+mod machine;
+mod numbers;
 mod ours;
+mod plot;
 mod solves;
-mod space;
+mod table;
 mod theirs;
+mod work;
 
-use runs::entries;
-use runs::random::Random;
-use runs::timing::interleaved;
+use given::Given;
+use runs::calls::entry::{Entry, Question, Solver, BUILDERS};
 use std::env;
 use std::hint::black_box;
-use theirs::Call;
-
-const ROUNDS: usize = 101;
+use std::io::Write;
 
 fn main() {
-    let mut random = Random::new(1);
     let words: Vec<String> = env::args().skip(1).collect();
     let words: Vec<&str> = words.iter().map(String::as_str).collect();
     match words[..] {
-        [] => measure(&mut random),
-        ["job"] => job::measure(&mut random),
-        ["once", "graph"] => graph::once(&mut random),
-        ["once", "forward"] => solves::once(&mut random, Call::Forward),
-        ["once", "backward"] => solves::once(&mut random, Call::Backward),
-        _ => panic!("measure [job | once graph | once forward | once backward]"),
+        [] => machine::described(|| {
+            calls();
+            job::measure();
+            growth::measure();
+        }),
+        ["calls"] => machine::described(calls),
+        ["job"] => machine::described(job::measure),
+        ["growth"] => machine::described(growth::measure),
+        ["names"] => names().iter().for_each(|name| println!("{name}")),
+        ["once", "job"] => std::io::stdout().write_all(&job::largest()).expect("bytes can be printed"),
+        ["once", name] => once(name, "both"),
+        ["once", name, side @ ("ours" | "theirs" | "neither")] => once(name, side),
+        _ => panic!("measure [calls | job | growth | names | once NAME [ours | theirs | neither]]"),
     }
 }
 
-fn measure(random: &mut Random) {
-    square_root(random);
-    norm(random);
-    graph::measure(random);
-    solves::measure(random);
-    job::measure(random);
+fn calls() {
+    numbers::measure();
+    let given = [(1_000, 10_000), (65_536, 262_144), (65_536, 1_048_576)].map(|(nodes, links)| Given::new(nodes, links));
+    graph::measure(&given);
+    solves::measure(&given);
 }
 
-/// One call of the square root, against the machine's own instruction.
-fn square_root(random: &mut Random) {
-    let numbers: Vec<f64> = (0..4096).map(|_| f64::from_bits(random.next() >> 1 & !(0x400 << 52))).collect();
-    let timed = interleaved(
-        ROUNDS,
-        numbers.len(),
-        || numbers.iter().for_each(|&x| keep(entries::square_root(black_box(x)))),
-        || numbers.iter().for_each(|&x| keep(black_box(x).sqrt())),
-    );
-    println!("square_root, a call: {timed}");
+fn entries() -> impl Iterator<Item = Entry> {
+    BUILDERS.into_iter().chain(solves::SOLVERS.into_iter().flat_map(Solver::entries))
 }
 
-/// The norm of 65,536 residuals, against the expression of the Rust's `compute_residual_norm`, which is private there.
-fn norm(random: &mut Random) {
-    let residual: Vec<f64> = (0..65536).map(|_| random.unit()).collect();
-    let timed = interleaved(
-        ROUNDS,
-        1,
-        || keep(entries::compute_residual_norm(black_box(&residual))),
-        || keep(black_box(&residual).iter().map(|&x| x * x).sum::<f64>().sqrt()),
-    );
-    println!("compute_residual_norm, 65,536 residuals: {timed}");
+fn names() -> Vec<String> {
+    let fixed = numbers::NAMES.into_iter().chain([graph::WHOLE]).map(str::to_string);
+    fixed.chain(entries().map(Entry::name)).collect()
+}
+
+/// A call on 65,536 numbers, or on 65,536 nodes and 262,144 links, with at most 100,000 pushes. By the default settings a
+/// backward solve is over after few: it is asked for all of them.
+fn once(name: &str, side: &str) {
+    if numbers::NAMES.contains(&name) {
+        return numbers::work(name, 65_536).once(side);
+    }
+    let mut given = Given::new(65_536, 262_144);
+    if name == graph::WHOLE {
+        return graph::whole(&given).once(side);
+    }
+    let entry = entries().find(|entry| entry.name() == name).expect("one of the names that `measure names` prints");
+    given.wish.settings.max_pushes = 100_000;
+    given.wish.backward_settings = solves::all_of(100_000);
+    if let Entry::Solve(Question { solver: Solver::Backward, .. }, _) = entry {
+        given.wish.settings = given.wish.backward_settings;
+    }
+    given.work(entry).once(side);
 }
 
 /// Keeps a result that nothing reads, so that the work for it is done.

@@ -1,130 +1,87 @@
-//! The proved library's side: what the entries are given and lent for one graph, made once and used again in every call.
-use crate::space::{PairSpace, QueueSpace, RowSpace};
-use crate::theirs::{Call, Done, Ends};
-use repaired::graph::CompressedSparseRow;
-use runs::entries::{self, Links, Rows, Scored, Settings, Solved};
-use std::hint::black_box;
+//! The proved library's side: a call with what it is given and lent, made once and used again each time it is made.
+use crate::theirs::Done;
+use runs::calls::call::Call;
+use runs::calls::lending::Slice;
+use runs::calls::make::{make, Read};
+use runs::calls::outcome::Returned;
+use runs::calls::shape::Kind;
 use std::mem::size_of_val;
+use Space::{Real, Whole, Wide};
 
 pub struct Ours {
-    nodes: u32,
-    from: Vec<u32>,
-    to: Vec<u32>,
-    weight: Vec<f64>,
-    given: RowSpace,
-    forward: PairSpace,
-    backward: PairSpace,
-    rows: RowSpace,
-    reverse: RowSpace,
-    in_degrees: Vec<f64>,
-    out_degrees: Vec<f64>,
-    queue: QueueSpace,
+    pub call: Call,
+    written: Vec<Space>,
 }
 
-impl From<Solved> for Done {
-    fn from(solved: Solved) -> Self {
-        assert_eq!(solved.refusal, 0);
-        Self { pushes: solved.push_count as usize, number: solved.residual_norm }
-    }
-}
-
-impl From<Scored> for Done {
-    fn from(scored: Scored) -> Self {
-        assert_eq!(scored.refusal, 0);
-        Self { pushes: 0, number: scored.score }
-    }
+/// A buffer that is lent to be written.
+enum Space {
+    Whole(Vec<u32>),
+    Wide(Vec<u64>),
+    Real(Vec<f64>),
 }
 
 impl Ours {
-    pub fn new(nodes: usize, edges: &[(usize, usize, f64)], rows: CompressedSparseRow) -> Self {
-        let links = edges.len();
-        let narrow = |wide: Vec<usize>| wide.into_iter().map(|word| word as u32).collect();
-        Self {
-            nodes: nodes as u32,
-            from: edges.iter().map(|edge| edge.0 as u32).collect(),
-            to: edges.iter().map(|edge| edge.1 as u32).collect(),
-            weight: edges.iter().map(|edge| edge.2).collect(),
-            given: RowSpace {
-                starts: narrow(rows.row_ptr),
-                columns: narrow(rows.col_indices),
-                weights: rows.values,
-            },
-            forward: PairSpace::new(nodes),
-            backward: PairSpace::new(nodes),
-            rows: RowSpace::new(nodes, links),
-            reverse: RowSpace::new(nodes, links),
-            in_degrees: vec![0.0; nodes],
-            out_degrees: vec![0.0; nodes],
-            queue: QueueSpace::new(nodes),
+    pub fn new(call: Call) -> Self {
+        let shapes = call.entry.written();
+        let written = shapes.iter().zip(&call.lengths).map(|(shape, &length)| Space::new(shape.kind, length)).collect();
+        Self { call, written }
+    }
+
+    pub fn make(&mut self) -> Done {
+        let Call { first, second, weights, wish, .. } = &self.call;
+        let read = Read { first, second, weights, many: &wish.many };
+        make(&self.call, &read, &mut self.written.iter_mut().map(Space::lend)).into()
+    }
+
+    /// Makes a call on rows with those that a call of `from_edges` has left. It keeps every link here, so that they are as
+    /// long as its list.
+    pub fn make_on(&mut self, rows: &Ours) -> Done {
+        let [Whole(first), Whole(second), Real(weights), ..] = &rows.written[..] else { unreachable!("rows first") };
+        let read = Read { first, second, weights, many: &[] };
+        make(&self.call, &read, &mut self.written.iter_mut().map(Space::lend)).into()
+    }
+
+    /// The bytes that it is lent to write.
+    pub fn lent(&self) -> usize {
+        self.written.iter().map(Space::bytes).sum()
+    }
+}
+
+impl Space {
+    fn new(kind: Kind, length: usize) -> Self {
+        match kind {
+            Kind::Whole => Whole(vec![0; length]),
+            Kind::Wide => Wide(vec![0; length]),
+            Kind::Real => Real(vec![0.0; length]),
         }
     }
 
-    pub fn solve_links(&mut self, call: Call, ends: Ends, settings: Settings) -> Done {
-        let given = Links { n: self.nodes, from: black_box(&self.from), to: &self.to, weight: &self.weight };
-        let Ends { source, target } = ends;
-        let (forward, backward) = (self.forward.lend(), self.backward.lend());
-        let (rows, reverse, queue) = (self.rows.lend(), self.reverse.lend(), self.queue.lend());
-        let (arriving, leaving) = (&mut self.in_degrees[..], &mut self.out_degrees[..]);
-        match call {
-            Call::Forward => {
-                entries::solve_single_source_links(given, source, settings, forward, rows, leaving, queue).into()
-            }
-            Call::Backward => entries::solve_single_target_links(
-                given, target, settings, backward, rows, reverse, arriving, leaving, queue,
-            )
-            .into(),
-            Call::Bidirectional => entries::solve_bidirectional_links(
-                given, source, target, settings, settings, forward, backward, rows, reverse, arriving, leaving, queue,
-            )
-            .into(),
-            Call::Adaptive => entries::adaptive_solve_links(
-                given, source, target, settings, settings, forward, backward, rows, reverse, arriving, leaving, queue,
-            )
-            .into(),
+    fn lend(&mut self) -> Slice<'_> {
+        match self {
+            Whole(words) => Slice::Whole(words),
+            Wide(words) => Slice::Wide(words),
+            Real(words) => Slice::Real(words),
         }
     }
 
-    pub fn solve_rows(&mut self, call: Call, ends: Ends, settings: Settings) -> Done {
-        let RowSpace { starts, columns, weights } = &self.given;
-        let given = Rows { n: self.nodes, starts: black_box(starts), columns, weights };
-        let Ends { source, target } = ends;
-        let (forward, backward) = (self.forward.lend(), self.backward.lend());
-        let (reverse, queue) = (self.reverse.lend(), self.queue.lend());
-        let (arriving, leaving) = (&mut self.in_degrees[..], &mut self.out_degrees[..]);
-        match call {
-            Call::Forward => {
-                entries::solve_single_source_rows(given, source, settings, forward, leaving, queue).into()
-            }
-            Call::Backward => entries::solve_single_target_rows(
-                given, target, settings, backward, reverse, arriving, leaving, queue,
-            )
-            .into(),
-            Call::Bidirectional => entries::solve_bidirectional_rows(
-                given, source, target, settings, settings, forward, backward, reverse, arriving, leaving, queue,
-            )
-            .into(),
-            Call::Adaptive => entries::adaptive_solve_rows(
-                given, source, target, settings, settings, forward, backward, reverse, arriving, leaving, queue,
-            )
-            .into(),
+    fn bytes(&self) -> usize {
+        match self {
+            Whole(words) => size_of_val(&words[..]),
+            Wide(words) => size_of_val(&words[..]),
+            Real(words) => size_of_val(&words[..]),
         }
     }
+}
 
-    /// The bytes that a call on rows is lent to write.
-    pub fn rows_lent(&self, call: Call) -> usize {
-        let degrees = size_of_val(&self.out_degrees[..]);
-        let reverse = self.reverse.bytes() + size_of_val(&self.in_degrees[..]);
-        self.queue.bytes()
-            + degrees
-            + match call {
-                Call::Forward => self.forward.bytes(),
-                Call::Backward => self.backward.bytes() + reverse,
-                _ => self.forward.bytes() + self.backward.bytes() + reverse,
-            }
-    }
-
-    /// The bytes that a call on a list of links is lent to write.
-    pub fn links_lent(&self, call: Call) -> usize {
-        self.rows_lent(call) + self.rows.bytes()
+impl From<Returned> for Done {
+    fn from(returned: Returned) -> Self {
+        let (refusal, pushes, number) = match returned {
+            Returned::Number(refusal) => (refusal, 0, 0.0),
+            Returned::Built(built) => (built.refusal, 0, 0.0),
+            Returned::Solved(solved) => (solved.refusal, solved.push_count as usize, solved.residual_norm),
+            Returned::Scored(scored) => (scored.refusal, 0, scored.score),
+        };
+        assert_eq!(refusal, 0, "what is measured is not refused");
+        Self { pushes, number }
     }
 }

@@ -1,36 +1,13 @@
-//! The calls that are measured, and the Rust's side of each.
+//! The Rust's side of the calls that solve, on a graph that is there.
+use crate::keep;
 use repaired::graph::PushGraph;
-use repaired::solver::backward_push::{BackwardPushSolver, BidirectionalPushSolver};
-use repaired::solver::forward_push::ForwardPushSolver;
-use runs::entries::Settings;
+use repaired::solver::backward_push::BidirectionalPushSolver;
+use runs::calls::call::Wish;
+use runs::calls::entry::{Solver, Task};
+use runs::calls::theirs::Theirs as OneWay;
 
-#[derive(Clone, Copy, PartialEq, Eq)]
-pub enum Call {
-    Forward,
-    Backward,
-    Bidirectional,
-    Adaptive,
-}
-
-impl Call {
-    pub fn name(self) -> &'static str {
-        match self {
-            Call::Forward => "solve_single_source",
-            Call::Backward => "solve_single_target",
-            Call::Bidirectional => "solve_bidirectional",
-            Call::Adaptive => "adaptive_solve",
-        }
-    }
-}
-
-/// Where a solve begins: a call of one way has the end that it takes.
-#[derive(Clone, Copy)]
-pub struct Ends {
-    pub source: u32,
-    pub target: u32,
-}
-
-/// What both sides come to: the norm of a solve and its pushes, or a score.
+/// What both sides come to: the norm of a solve and its pushes, or a score; nothing where the answer is a list.
+#[derive(Debug)]
 pub struct Done {
     pub pushes: usize,
     pub number: f64,
@@ -38,35 +15,52 @@ pub struct Done {
 
 /// The Rust's solver of a graph.
 pub enum Theirs {
-    Forward(ForwardPushSolver),
-    Backward(BackwardPushSolver),
+    OneWay(OneWay),
     Both(BidirectionalPushSolver),
 }
 
 impl Theirs {
-    pub fn new(call: Call, graph: PushGraph, settings: &Settings) -> Self {
-        match call {
-            Call::Forward => Self::Forward(ForwardPushSolver::new(graph, settings.forward())),
-            Call::Backward => Self::Backward(BackwardPushSolver::new(graph, settings.backward())),
-            _ => Self::Both(BidirectionalPushSolver::new(graph, settings.forward(), settings.backward())),
+    pub fn new(solver: Solver, graph: PushGraph, wish: &Wish) -> Self {
+        match solver {
+            Solver::Bidirectional => {
+                let (forward, backward) = (wish.settings.forward(), wish.backward_settings.backward());
+                Self::Both(BidirectionalPushSolver::new(graph, forward, backward))
+            }
+            _ => Self::OneWay(OneWay::new(solver, graph, wish)),
         }
     }
 
-    pub fn solve(&self, call: Call, ends: Ends) -> Done {
-        let (source, target) = (ends.source as usize, ends.target as usize);
-        match self {
-            Self::Forward(solver) => {
-                let result = solver.solve_single_source(source);
-                Done { pushes: result.push_count, number: result.residual_norm }
+    /// The one call of the Rust that a task stands for.
+    pub fn solve(&self, wish: &Wish, task: Task) -> Done {
+        let (source, target) = (wish.source as usize, wish.target as usize);
+        match (self, task) {
+            (Self::Both(solver), Task::Adaptive) => Done::number(solver.adaptive_solve(source, target)),
+            (Self::Both(solver), _) => Done::number(solver.solve_bidirectional(source, target)),
+            (Self::OneWay(solver), Task::Query) => Done::number(solver.score(wish)),
+            (Self::OneWay(OneWay::Backward(solver)), Task::Reachability) => {
+                Done::listed(solver.reachability_probabilities(target))
             }
-            Self::Backward(solver) => {
-                let result = solver.solve_single_target(target);
-                Done { pushes: result.push_count, number: result.residual_norm }
+            (Self::OneWay(solver), _) => {
+                let run = solver.solved(wish, task);
+                Done { pushes: run.push_count, number: run.residual_norm }
             }
-            Self::Both(solver) if call == Call::Adaptive => {
-                Done { pushes: 0, number: solver.adaptive_solve(source, target) }
-            }
-            Self::Both(solver) => Done { pushes: 0, number: solver.solve_bidirectional(source, target) },
         }
+    }
+}
+
+impl Done {
+    /// What comes to a list, which nothing reads.
+    pub fn listed<T>(list: T) -> Self {
+        keep(list);
+        Self::number(0.0)
+    }
+
+    pub fn number(number: f64) -> Self {
+        Self { pushes: 0, number }
+    }
+
+    /// Both sides have done the same work.
+    pub fn agrees(&self, other: &Self) -> bool {
+        (self.pushes, self.number.to_bits()) == (other.pushes, other.number.to_bits())
     }
 }

@@ -1,5 +1,6 @@
 //! A buffer that a call was lent to write, and how its contents differ from what they should be.
 use Buffer::{Real, Whole, Wide};
+use runs::calls::lending::Slice;
 use runs::calls::outcome::Contents;
 use runs::calls::shape::Kind;
 use runs::comparison::same;
@@ -17,6 +18,14 @@ impl Buffer {
             Kind::Whole => Whole(Lent::patterned(length)),
             Kind::Wide => Wide(Lent::patterned(length)),
             Kind::Real => Real(Lent::patterned(length)),
+        }
+    }
+
+    pub fn lend(&mut self) -> Slice<'_> {
+        match self {
+            Whole(lent) => Slice::Whole(lent.slice_mut()),
+            Wide(lent) => Slice::Wide(lent.slice_mut()),
+            Real(lent) => Slice::Real(lent.slice_mut()),
         }
     }
 

@@ -1,10 +1,10 @@
 //! A call that was made: what it returned, what it left in every buffer, and how that differs from an expected outcome.
 use runs::calls::call::Call;
+use runs::calls::make::{make, Read};
 use runs::calls::outcome::{Outcome, Returned};
 use runs::calls::shape::Shape;
 use runs::lent::{Lent, Word};
 use super::buffer::Buffer::{self, Real};
-use super::make::{make, Read};
 
 pub struct Made<'a> {
     call: &'a Call,
@@ -25,7 +25,7 @@ impl<'a> Made<'a> {
         let mut written: Vec<Buffer> = call.entry.written().iter().zip(&call.lengths).map(lend).collect();
         let read =
             Read { first: first.slice(), second: second.slice(), weights: weights.slice(), many: many.slice() };
-        let returned = make(call, &read, &mut written);
+        let returned = make(call, &read, &mut written.iter_mut().map(Buffer::lend));
         Self { call, first, second, weights, many, written, returned }
     }
 

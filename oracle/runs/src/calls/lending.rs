@@ -1,28 +1,30 @@
 //! Hands the buffers of a call to its entry, one after the other, in the order of the parameters.
-use runs::entries::{Pair, QueueBuffers, RowBuffers};
-use std::slice::IterMut;
-use super::buffer::Buffer::{self, Real, Whole, Wide};
+use crate::entries::{Pair, QueueBuffers, RowBuffers};
+use Slice::{Real, Whole, Wide};
 
-pub struct Lending<'a>(IterMut<'a, Buffer>);
+/// A buffer, as an entry is lent it.
+pub enum Slice<'a> {
+    Whole(&'a mut [u32]),
+    Wide(&'a mut [u64]),
+    Real(&'a mut [f64]),
+}
 
-impl<'a> Lending<'a> {
-    pub fn of(written: &'a mut [Buffer]) -> Self {
-        Self(written.iter_mut())
-    }
+pub struct Lending<'a, 'b>(pub &'b mut dyn Iterator<Item = Slice<'a>>);
 
+impl<'a> Lending<'a, '_> {
     pub fn reals(&mut self) -> &'a mut [f64] {
-        let Some(Real(lent)) = self.0.next() else { unreachable!("the buffers are made for the entry") };
-        lent.slice_mut()
+        let Some(Real(slice)) = self.0.next() else { unreachable!("the buffers are made for the entry") };
+        slice
     }
 
     pub fn wholes(&mut self) -> &'a mut [u32] {
-        let Some(Whole(lent)) = self.0.next() else { unreachable!("the buffers are made for the entry") };
-        lent.slice_mut()
+        let Some(Whole(slice)) = self.0.next() else { unreachable!("the buffers are made for the entry") };
+        slice
     }
 
     fn wides(&mut self) -> &'a mut [u64] {
-        let Some(Wide(lent)) = self.0.next() else { unreachable!("the buffers are made for the entry") };
-        lent.slice_mut()
+        let Some(Wide(slice)) = self.0.next() else { unreachable!("the buffers are made for the entry") };
+        slice
     }
 
     pub fn pair(&mut self) -> Pair<'a> {

@@ -1,10 +1,9 @@
 //! Makes a call: passes what it is given, and lends its buffers, to the entry that it names.
-use runs::calls::call::Call;
-use runs::calls::entry::{Task, Entry, Form, Question, Solver};
-use runs::calls::outcome::Returned::{self, Built, Number, Scored, Solved};
-use runs::entries::{self, Links, Rows};
-use super::buffer::Buffer;
-use super::lending::Lending;
+use super::call::Call;
+use super::entry::{Task, Entry, Form, Question, Solver};
+use super::lending::{Lending, Slice};
+use super::outcome::Returned::{self, Built, Number, Scored, Solved};
+use crate::entries::{self, Links, Rows};
 
 /// The lists that a call is lent to read.
 pub struct Read<'a> {
@@ -14,10 +13,10 @@ pub struct Read<'a> {
     pub many: &'a [u32],
 }
 
-pub fn make(call: &Call, read: &Read, written: &mut [Buffer]) -> Returned {
+pub fn make<'a>(call: &Call, read: &Read, written: &mut dyn Iterator<Item = Slice<'a>>) -> Returned {
     let links = Links { n: call.nodes, from: read.first, to: read.second, weight: read.weights };
     let rows = Rows { n: call.nodes, starts: read.first, columns: read.second, weights: read.weights };
-    let mut lent = Lending::of(written);
+    let mut lent = Lending(written);
     match call.entry {
         Entry::FromEdges => Built(entries::from_edges(links, lent.rows(), lent.wholes())),
         Entry::FromMatrix => {
