@@ -43,7 +43,7 @@ pub extern "C" fn adaptive_solve_links(
         (solveLent (now («backward_estimate» .entry)) (now («backward_residual» .entry)) (now («in_degrees» .entry)) (now (priorities .entry)) (now (nodes .entry)) (now (queued .entry)) (now (visited .entry)))))))
         source target «forward_settings» «backward_settings» ⌝ }
 {
-    bidirectional_push::links::checked_links(
+    bidirectional_links::checked_links(
         n,
         from,
         to,

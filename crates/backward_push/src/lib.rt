@@ -1,4 +1,3 @@
 // The backward solver below its public calls with rows and with links.
-pub mod links;
 pub mod rows;
 pub mod turned;

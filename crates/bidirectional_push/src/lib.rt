@@ -1,5 +1,4 @@
 // The bidirectional solver below its public calls with rows and with links.
-pub mod links;
 pub mod methods;
 pub mod rows;
 

@@ -1,4 +1,3 @@
 // The forward solver below its public calls with rows and with links, and the call that needs neither.
 pub mod extrapolation;
-pub mod links;
 pub mod rows;

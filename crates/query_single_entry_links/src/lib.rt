@@ -35,7 +35,7 @@ pub extern "C" fn query_single_entry_links(
         source target settings ⌝ }
 {
     let one = [source];
-    let c = forward_push::links::checked_links(
+    let c = forward_links::checked_links(
         n,
         from,
         to,

@@ -41,7 +41,7 @@ pub extern "C" fn query_transition_probability_links(
         source target settings ⌝ }
 {
     let one = [target];
-    let c = backward_push::links::checked_links(
+    let c = backward_links::checked_links(
         n,
         from,
         to,

@@ -40,7 +40,7 @@ pub extern "C" fn reachability_probabilities_links(
         target settings ⌝ }
 {
     let one = [target];
-    let c = backward_push::links::checked_links(
+    let c = backward_links::checked_links(
         n,
         from,
         to,

@@ -31,7 +31,7 @@ pub extern "C" fn solve_multi_source_links(
         (now (sources .entry)) settings (left r (linksLent (now (starts .exit)) (now (columns .exit)) (now (weights .exit))
         (solveLent (now (estimate .exit)) (now (residual .exit)) (now (degrees .exit)) (now (priorities .exit)) (now (nodes .exit)) (now (queued .exit)) (now (visited .exit))))) ⌝ }
 {
-    let c = forward_push::links::checked_links(
+    let c = forward_links::checked_links(
         n,
         from,
         to,

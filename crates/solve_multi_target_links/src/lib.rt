@@ -37,7 +37,7 @@ pub extern "C" fn solve_multi_target_links(
         (now (targets .entry)) settings (left r (linksLent (now (starts .exit)) (now (columns .exit)) (now (weights .exit)) (backLent (now («reverse_starts» .exit)) (now («reverse_columns» .exit)) (now («reverse_weights» .exit)) (now («out_degrees» .exit))
         (solveLent (now (estimate .exit)) (now (residual .exit)) (now («in_degrees» .exit)) (now (priorities .exit)) (now (nodes .exit)) (now (queued .exit)) (now (visited .exit)))))) ⌝ }
 {
-    let c = backward_push::links::checked_links(
+    let c = backward_links::checked_links(
         n,
         from,
         to,

@@ -32,7 +32,7 @@ pub extern "C" fn solve_single_source_links(
         (solveLent (now (estimate .exit)) (now (residual .exit)) (now (degrees .exit)) (now (priorities .exit)) (now (nodes .exit)) (now (queued .exit)) (now (visited .exit))))) ⌝ }
 {
     let one = [source];
-    let c = forward_push::links::checked_links(
+    let c = forward_links::checked_links(
         n,
         from,
         to,

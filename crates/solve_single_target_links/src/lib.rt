@@ -38,7 +38,7 @@ pub extern "C" fn solve_single_target_links(
         (solveLent (now (estimate .exit)) (now (residual .exit)) (now («in_degrees» .exit)) (now (priorities .exit)) (now (nodes .exit)) (now (queued .exit)) (now (visited .exit)))))) ⌝ }
 {
     let one = [target];
-    let c = backward_push::links::checked_links(
+    let c = backward_links::checked_links(
         n,
         from,
         to,

@@ -41,7 +41,7 @@ pub extern "C" fn solve_with_source_links(
 {
     let one = [target];
     let further = refusals::refuse_precision(source_precision);
-    let c = backward_push::links::checked_links(
+    let c = backward_links::checked_links(
         n,
         from,
         to,

@@ -35,7 +35,7 @@ pub extern "C" fn solve_with_target_links(
 {
     let one = [source];
     let further = refusals::refuse_precision(target_precision);
-    let c = forward_push::links::checked_links(
+    let c = forward_links::checked_links(
         n,
         from,
         to,

@@ -1,15 +1,15 @@
--- `backward_push::links::solve_links` meets its contract: the rows, the solve of them and the clearing, by the law of lists of links. Assumes nothing.
+-- `backward_links::solve_links` meets its contract: the rows, the solve of them and the clearing, by the law of lists of links. Assumes nothing.
 use mathlib.Core.Path.{_∙_}
 use denote.Ref.{now}
 use Rattle.rules.specs.Ways.{backward}
 use Rattle.solver.specs.States.{watchIn}
 use Rattle.calls.proofs.Fits.{fits-nodes}
 use Rattle.calls.proofs.Links.{links-settle}
 use Rattle.backward_push.specs.Lent.{turning}
 use Rattle.backward_push.proofs.Turning.{made-turnable}
 use borrow.Author.Needs.{needs}
-use Rattle.backward_push.proofs.links.solve_links.Statement.{statement}
-use Rattle.backward_push.proofs.links.solve_links.Tie as tie
+use Rattle.backward_links.proofs.solve_links.Statement.{statement}
+use Rattle.backward_links.proofs.solve_links.Tie as tie
 
 build-rows-requires : tie.Need-build-rows-requires
 build-rows-requires c κs = c .before .before .before .before .before .before .before .before .before .before .before .before .before .before .before .before .before .before .before .before .before .before .pre .0

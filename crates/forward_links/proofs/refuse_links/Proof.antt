@@ -1,8 +1,8 @@
--- `forward_push::links::refuse_links` meets its contract: the tests of the lengths, and then the others. Assumes nothing.
+-- `forward_links::refuse_links` meets its contract: the tests of the lengths, and then the others. Assumes nothing.
 use Rattle.refusals.specs.Refusals.{lengths, unlike}
 use borrow.Author.Needs.{needs}
-use Rattle.forward_push.proofs.links.refuse_links.Statement.{statement}
-use Rattle.forward_push.proofs.links.refuse_links.Tie as tie
+use Rattle.forward_links.proofs.refuse_links.Statement.{statement}
+use Rattle.forward_links.proofs.refuse_links.Tie as tie
 
 unlike-links-requires : tie.Need-unlike-links-requires
 unlike-links-requires c κs = search needs

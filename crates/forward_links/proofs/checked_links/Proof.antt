@@ -1,4 +1,4 @@
--- `forward_push::links::checked_links` meets its contract: refused by what the tests say, or done as `solve_links` says. Assumes nothing.
+-- `forward_links::checked_links` meets its contract: refused by what the tests say, or done as `solve_links` says. Assumes nothing.
 use mathlib.Core.Path.{_≡_}
 use denote.Ref.{now}
 use Rattle.refusals.specs.Refusals.{_or_, settings}
@@ -8,8 +8,8 @@ use Rattle.calls.proofs.Left.{call-refused, call-done}
 use Rattle.calls.proofs.Asked.{links-asked}
 use Rattle.calls.proofs.Fits.{fits}
 use borrow.Author.Needs.{needs}
-use Rattle.forward_push.proofs.links.checked_links.Statement.{statement}
-use Rattle.forward_push.proofs.links.checked_links.Tie as tie
+use Rattle.forward_links.proofs.checked_links.Statement.{statement}
+use Rattle.forward_links.proofs.checked_links.Tie as tie
 
 -- the number
 number : (c : tie.After-or2) → let a = c .before .before .before .before .before .before .before .before .before .before .before .before .before .before .before .before .before .before .args in

@@ -1,4 +1,4 @@
--- `bidirectional_push::links::checked_links` meets its contract: refused by what the tests say, or done as `solve_links` says. Assumes nothing.
+-- `bidirectional_links::checked_links` meets its contract: refused by what the tests say, or done as `solve_links` says. Assumes nothing.
 use Prim.Native.Nat.{ℕ}
 use mathlib.Core.List.{List, [], _∷_}
 use mathlib.Core.Path.{_≡_}
@@ -11,12 +11,12 @@ use Rattle.calls.specs.Outcomes.{givenLinks}
 use Rattle.calls.proofs.Asked.{links-asked}
 use Rattle.calls.proofs.Fits.{fits}
 use Rattle.backward_push.specs.Lent.{backLent}
 use Rattle.bidirectional_push.specs.Lent.{bothLent, joining}
 use Rattle.bidirectional_push.proofs.Room.{two-besides}
 use Rattle.bidirectional_push.proofs.Joining.{answer-refused, answer-done}
 use borrow.Author.Needs.{needs}
-use Rattle.bidirectional_push.proofs.links.checked_links.Statement.{statement}
-use Rattle.bidirectional_push.proofs.links.checked_links.Tie as tie
+use Rattle.bidirectional_links.proofs.checked_links.Statement.{statement}
+use Rattle.bidirectional_links.proofs.checked_links.Tie as tie
 
 -- the number
 number : (c : tie.After-or2) → let a = c .before .before .before .before .before .before .before .before .before .before .before .before .before .before .before .before .before .before .before .before .before .before .before .before .args in

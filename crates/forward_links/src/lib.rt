@@ -11,7 +11,7 @@ ghost use Rattle.solver.specs.States.{watchIn};
 ghost use Rattle.calls.specs.Lent.{words, solveLent, linksLent, solving};
 ghost use Rattle.calls.specs.Outcomes.{givenLinks};
 ghost use Rattle.calls.specs.Promises.{Fits, Settles, Checks};
-use crate::rows::solve_rows;
+use forward_push::rows::solve_rows;
 use calls::Counted;
 use refusals::Settings;
 use solver::Watch;

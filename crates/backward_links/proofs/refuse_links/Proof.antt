@@ -1,9 +1,9 @@
--- `backward_push::links::refuse_links` meets its contract: the tests of the lengths, and then the others. Assumes nothing.
+-- `backward_links::refuse_links` meets its contract: the tests of the lengths, and then the others. Assumes nothing.
 use Rattle.refusals.specs.Refusals.{lengths}
 use Rattle.calls.proofs.Lengths.{unlike-parts}
 use borrow.Author.Needs.{needs}
-use Rattle.backward_push.proofs.links.refuse_links.Statement.{statement}
-use Rattle.backward_push.proofs.links.refuse_links.Tie as tie
+use Rattle.backward_links.proofs.refuse_links.Statement.{statement}
+use Rattle.backward_links.proofs.refuse_links.Tie as tie
 
 unlike-links-requires : tie.Need-unlike-links-requires
 unlike-links-requires c κs = search needs

@@ -10,9 +10,9 @@ ghost use Rattle.calls.specs.Lent.{solveLent, linksLent};
 ghost use Rattle.calls.specs.Outcomes.{givenLinks};
 ghost use Rattle.calls.specs.Promises.{Fits};
 ghost use Rattle.backward_push.specs.Lent.{backLent};
 ghost use Rattle.bidirectional_push.specs.Lent.{bothLent, joining};
 ghost use Rattle.bidirectional_push.specs.Promises.{Joins, Answers};
-use crate::rows::solve_rows;
+use bidirectional_push::rows::solve_rows;
 use calls::Scored;
 use refusals::Settings;
 
@@ -123,7 +123,7 @@ pub fn checked_links(
         (solveLent (now («backward_estimate» .exit)) (now («backward_residual» .exit)) (now («in_degrees» .exit)) (now (priorities .exit)) (now (nodes .exit)) (now (queued .exit)) (now (visited .exit))))))) ⌝ }
 {
     let k = n as usize;
-    let tests = backward_push::links::refuse_links(
+    let tests = backward_links::refuse_links(
         (forward_estimate.len() != k) | (forward_residual.len() != k),
         n,
         0,

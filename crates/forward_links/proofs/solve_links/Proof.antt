@@ -1,4 +1,4 @@
--- `forward_push::links::solve_links` meets its contract: the rows, the solve of them and the clearing, by the law of lists of links. Assumes nothing.
+-- `forward_links::solve_links` meets its contract: the rows, the solve of them and the clearing, by the law of lists of links. Assumes nothing.
 use mathlib.Core.Path.{_∙_}
 use denote.Ref.{now}
 use Rattle.graph.proofs.Back.{held-rowed}
@@ -8,8 +8,8 @@ use Rattle.calls.specs.Lent.{solving}
 use Rattle.calls.proofs.Fits.{fits-nodes}
 use Rattle.calls.proofs.Links.{links-settle}
 use borrow.Author.Needs.{needs}
-use Rattle.forward_push.proofs.links.solve_links.Statement.{statement}
-use Rattle.forward_push.proofs.links.solve_links.Tie as tie
+use Rattle.forward_links.proofs.solve_links.Statement.{statement}
+use Rattle.forward_links.proofs.solve_links.Tie as tie
 
 build-rows-requires : tie.Need-build-rows-requires
 build-rows-requires c κs = search needs

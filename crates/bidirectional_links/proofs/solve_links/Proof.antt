@@ -1,12 +1,12 @@
--- `bidirectional_push::links::solve_links` meets its contract: the rows, the solves of them and the clearing, by the laws of `Joining`. Assumes nothing.
+-- `bidirectional_links::solve_links` meets its contract: the rows, the solves of them and the clearing, by the laws of `Joining`. Assumes nothing.
 use mathlib.Core.Path.{_∙_}
 use denote.Ref.{now}
 use Rattle.calls.proofs.Fits.{fits-nodes}
 use Rattle.backward_push.proofs.Turning.{made-turnable}
 use Rattle.bidirectional_push.proofs.Joining.{links-joined}
 use borrow.Author.Needs.{needs}
-use Rattle.bidirectional_push.proofs.links.solve_links.Statement.{statement}
-use Rattle.bidirectional_push.proofs.links.solve_links.Tie as tie
+use Rattle.bidirectional_links.proofs.solve_links.Statement.{statement}
+use Rattle.bidirectional_links.proofs.solve_links.Tie as tie
 
 build-rows-requires : tie.Need-build-rows-requires
 build-rows-requires c κs = c .before .before .before .before .before .before .before .before .before .before .before .before .before .before .before .before .before .before .before .before .before .before .before .pre .0

@@ -1,4 +1,4 @@
--- `backward_push::links::checked_links` meets its contract: refused by what the tests say, or done as `solve_links` says. Assumes nothing.
+-- `backward_links::checked_links` meets its contract: refused by what the tests say, or done as `solve_links` says. Assumes nothing.
 use Prim.Native.Nat.{ℕ}
 use mathlib.Core.Bool.{false}
 use mathlib.Core.Path.{_≡_}
@@ -11,10 +11,10 @@ use Rattle.calls.proofs.Left.{call-refused, call-done}
 use Rattle.calls.proofs.Asked.{links-asked}
 use Rattle.calls.proofs.Fits.{fits}
 use Rattle.calls.proofs.Lengths.{told, told-unlike, sized-behind, links-besides}
 use Rattle.backward_push.specs.Lent.{backLent, turning}
 use borrow.Author.Needs.{needs}
-use Rattle.backward_push.proofs.links.checked_links.Statement.{statement}
-use Rattle.backward_push.proofs.links.checked_links.Tie as tie
+use Rattle.backward_links.proofs.checked_links.Statement.{statement}
+use Rattle.backward_links.proofs.checked_links.Tie as tie
 
 -- the number
 number : (c : tie.After-or2) → let a = c .before .before .before .before .before .before .before .before .before .before .before .before .before .before .before .before .before .before .before .before .before .before .args in
