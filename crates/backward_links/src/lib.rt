@@ -8,7 +8,7 @@ ghost use Rattle.refusals.specs.Refusals.{unlike, linkTests};
 ghost use Rattle.refusals.specs.Calls.{left};
 ghost use Rattle.graph.specs.Store.{Buffers};
 ghost use Rattle.rules.specs.Ways.{backward};
-ghost use Rattle.solver.specs.States.{watchIn};
+ghost use Rattle.solver.specs.Watching.{watchIn};
 ghost use Rattle.calls.specs.Lent.{words, besides, solveLent, linksLent};
 ghost use Rattle.calls.specs.Outcomes.{givenLinks};
 ghost use Rattle.calls.specs.Promises.{Fits, Settles, Checks};

@@ -8,7 +8,7 @@ ghost use Rattle.refusals.specs.Refusals.{unlike, rowTests};
 ghost use Rattle.refusals.specs.Calls.{left};
 ghost use Rattle.graph.specs.Store.{RowBuffers};
 ghost use Rattle.rules.specs.Ways.{backward};
-ghost use Rattle.solver.specs.States.{watchIn};
+ghost use Rattle.solver.specs.Watching.{watchIn};
 ghost use Rattle.calls.specs.Lent.{words, besides, solveLent};
 ghost use Rattle.calls.specs.Outcomes.{givenRows};
 ghost use Rattle.calls.specs.Promises.{Fits, Settles, Checks};

@@ -21,7 +21,7 @@ use Rattle.rules.specs.Ways.{Way, forward, backward, wayOf, over, rowAt, degree
 use Rattle.rules.specs.Rules.{State, unwatched, blank, inside, watchable, begun, solve, at}
 use Rattle.rules.specs.Answers.{Method, neither, backwardAlone, forwardAlone, both, method, scoreAt, answerBy}
 use Rattle.rules.proofs.Starts.{solve-nothing}
-use Rattle.solver.specs.Meant.{Stands}
+use Rattle.pushes.specs.Meant.{Stands}
 use Rattle.solver.proofs.Graphs.{stands-over}
 use Rattle.calls.specs.declared.Counted.{Counted}
 use Rattle.calls.specs.Lent.{score, words, solveLent, solveDone, LinksLent, linksLent}

@@ -10,8 +10,8 @@ use Rattle.numbers.proofs.Tables.{length-tabulate, getD-tabulate}
 use Rattle.marks.specs.Marks.{marked, howMany}
 use Rattle.marks.proofs.Total.{how-many-same, how-many-none}
 use Rattle.rules.specs.Answers.{visitedCount}
-use Rattle.solver.specs.States.{marksIn, stateIn, NoneBeyond}
-use Rattle.solver.specs.declared.Progress.{Progress}
+use Rattle.pushes.specs.States.{marksIn, stateIn, NoneBeyond}
+use Rattle.pushes.specs.declared.Progress.{Progress}
 use Rattle.calls.specs.Lent.{words, tally}
 use Rattle.calls.specs.Promises.{countsOf}
 

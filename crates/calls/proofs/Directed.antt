@@ -14,8 +14,8 @@ use Rattle.graph.specs.Store.{chosen, Rowed, degreesIn}
 use Rattle.graph.proofs.Read.{length-degrees}
 use Rattle.rules.specs.Ways.{over, rowAt}
 use Rattle.rules.specs.Rules.{Watch, solve, at}
-use Rattle.solver.specs.Buffers.{Rows}
-use Rattle.solver.specs.Meant.{Stands}
+use Rattle.pushes.specs.Buffers.{Rows}
+use Rattle.pushes.specs.Meant.{Stands}
 use Rattle.solver.proofs.Graphs.{stands-over}
 use Rattle.calls.specs.declared.Counted.{Counted}
 use Rattle.calls.specs.Lent.{solveLent, solveDone}

@@ -13,7 +13,7 @@ use Rattle.refusals.specs.declared.Settings.{Settings}
 use Rattle.rules.specs.Ways.{Way}
 use Rattle.rules.specs.Rules.{State, Watch}
 use Rattle.rules.specs.Answers.{visitedCount}
-use Rattle.solver.specs.Buffers.{Room}
+use Rattle.pushes.specs.Buffers.{Room}
 use Rattle.calls.specs.declared.Counted.{Counted}
 use Rattle.calls.specs.declared.Solved.{Solved}
 use Rattle.calls.specs.declared.Scored.{Scored}

@@ -7,12 +7,12 @@ ghost use Rattle.refusals.specs.Refusals.{linkTests};
 ghost use Rattle.refusals.specs.Calls.{left};
 ghost use Rattle.graph.specs.Store.{Buffers};
 ghost use Rattle.rules.specs.Ways.{forward};
-ghost use Rattle.solver.specs.States.{watchIn};
+ghost use Rattle.solver.specs.Watching.{watchIn};
 ghost use Rattle.calls.specs.Lent.{words, solveLent, linksLent, solving};
 ghost use Rattle.calls.specs.Outcomes.{givenLinks};
 ghost use Rattle.calls.specs.Promises.{Fits, Settles, Checks};
-use forward_push::rows::solve_rows;
 use calls::Counted;
+use forward_push::rows::solve_rows;
 use refusals::Settings;
 use solver::Watch;
 

@@ -7,7 +7,7 @@ ghost use Rattle.refusals.specs.Refusals.{rowTests};
 ghost use Rattle.refusals.specs.Calls.{left};
 ghost use Rattle.graph.specs.Store.{Rowed};
 ghost use Rattle.rules.specs.Ways.{forward};
-ghost use Rattle.solver.specs.States.{watchIn};
+ghost use Rattle.solver.specs.Watching.{watchIn};
 ghost use Rattle.calls.specs.Lent.{words, solveLent, solving};
 ghost use Rattle.calls.specs.Outcomes.{givenRows};
 ghost use Rattle.calls.specs.Promises.{Fits, Settles, Checks};

@@ -11,7 +11,7 @@ use Rattle.graph.specs.Store.{chosen, Rowed}
 use Rattle.graph.proofs.Read.{row-at}
 use Rattle.rules.specs.Ways.{shareOf, wayOf, rowAt, over}
 use Rattle.rules.specs.Rules.{at}
-use Rattle.solver.specs.Meant.{Stands}
+use Rattle.pushes.specs.Meant.{Stands}
 
 -- the lists of the direction hold its rows, and the out-degrees are those of the graph
 pub stands-over : (n : ℕ) (backward : Bool) (rows : List (List Entry)) (starts columns columns′ : List ℕ) (weights weights′ outs : List Float)

@@ -1,8 +1,5 @@
 -- The laws that the proofs of `solver` share. `Graphs` is also for whoever calls `solve`.
 mod Moves
-mod Spreading
-mod Standing
-mod Tested
 mod Nexts
 mod Running
 mod Sources

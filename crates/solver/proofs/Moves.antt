@@ -1,4 +1,4 @@
--- The state that the buffers stand for, after each of the rules' moves. Assumes nothing.
+-- The state that the buffers stand for, after a node left the queue and after a push was counted. Assumes nothing.
 use Prim.Native.Nat.{ℕ, _+_, _<_}
 use native.Mathlib.Numerals.{add-one}
 use native.Mathlib.Omega.{arith}
@@ -7,35 +7,16 @@ use mathlib.Core.List.{List}
 use mathlib.Core.Path.{_≡_, ap, _∙_}
 use lib.ListN.{set}
 use lib.Ieee.{Float}
-use Rattle.numbers.specs.Numbers.{_⊘_}
 use Rattle.numbers.specs.Tables.{tabulate}
 use Rattle.numbers.proofs.Tables.{tabulate-set}
 use Rattle.refusals.specs.declared.Settings.{Settings}
 use Rattle.marks.specs.Marks.{marked, WithMark}
-use Rattle.queue.specs.Waiting.{out, offered}
+use Rattle.queue.specs.Waiting.{out}
 use Rattle.queue.specs.Heap.{waiting, Heap}
 use Rattle.queue.specs.declared.WorkQueue.{WorkQueue}
-use Rattle.rules.specs.Ways.{Way, effective, degreeOf}
-use Rattle.rules.specs.Rules.{at, queued, absorb, counted, offer}
-use Rattle.solver.specs.States.{marksIn, SameBeyond, progress, stateIn}
-use Rattle.solver.specs.Promises.{Absorbed, Adapted}
-use Rattle.solver.specs.declared.Progress.{Progress}
-
--- v was offered
-pub offer-state : (way : Way) (n v : ℕ) (degree : Float) (residual : List Float) (q q′ : WorkQueue) (ps : List Float) (ns : List ℕ) (ps′ : List Float)
-    (ns′ : List ℕ) → degree ≡ degreeOf way v → q′ .threshold ≡ q .threshold
-    → waiting (q′ .size) ps′ ns′ ≡ offered (q .threshold) v (at residual v ⊘ effective degree) (waiting (q .size) ps ns)
-    → (estimate : List Float) (pushes : ℕ) (visited : List ℕ)
-    → stateIn n estimate residual (progress q′ pushes) ps′ ns′ visited ≡ offer way v (stateIn n estimate residual (progress q pushes) ps ns visited)
-unfolding stateIn offer queued
-offer-state way n v degree residual q q′ ps ns ps′ ns′ d t w estimate pushes visited = rw (← d, t, w)
-
--- the estimate of v took its part
-pub absorb-state : (alpha : Float) (n v : ℕ) (estimate residual estimate′ residual′ : List Float) → Absorbed alpha v estimate residual estimate′ residual′
-    → (p : Progress) (ps : List Float) (ns visited : List ℕ)
-    → stateIn n estimate′ residual′ p ps ns visited ≡ absorb alpha v (stateIn n estimate residual p ps ns visited)
-unfolding stateIn absorb
-absorb-state alpha n v estimate residual estimate′ residual′ a p ps ns visited = rw (a .estimate-is, a .residual-is)
+use Rattle.rules.specs.Rules.{queued, counted}
+use Rattle.pushes.specs.States.{marksIn, SameBeyond, progress, stateIn}
+use Rattle.solver.specs.Promises.{Adapted}
 
 -- one node more is marked
 marks-set : (n v : ℕ) (words words′ : List ℕ) → WithMark true words words′ v → v < n → marksIn n words′ ≡ set (marksIn n words) v true

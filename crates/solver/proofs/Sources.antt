@@ -13,10 +13,10 @@ use Rattle.numbers.specs.Choice.{if_then_else_}
 use Rattle.queue.specs.declared.WorkQueue.{WorkQueue}
 use Rattle.rules.specs.Ways.{Way}
 use Rattle.rules.specs.Rules.{State, each, inside, gain, offer}
-use Rattle.solver.specs.States.{progress, stateIn}
-use Rattle.solver.specs.Buffers.{Lent}
-use Rattle.solver.specs.Meant.{Weighing}
-use Rattle.solver.specs.declared.Progress.{Progress}
+use Rattle.pushes.specs.States.{progress, stateIn}
+use Rattle.pushes.specs.Buffers.{Lent}
+use Rattle.pushes.specs.Meant.{Weighing}
+use Rattle.pushes.specs.declared.Progress.{Progress}
 
 -- the first of the sources that are left
 pub one-more : (f : ℕ → State → State) (n : ℕ) (sources : List ℕ) (i : ℕ) → i < length sources → (s : State)

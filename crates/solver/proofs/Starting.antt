@@ -17,7 +17,7 @@ use Rattle.queue.specs.Heap.{waiting}
 use Rattle.queue.specs.declared.WorkQueue.{WorkQueue}
 use Rattle.rules.specs.Ways.{Way}
 use Rattle.rules.specs.Rules.{Watch, each, blank, gain, offer, inside, watchable, begun, start}
-use Rattle.solver.specs.States.{marksIn, progress, stateIn}
+use Rattle.pushes.specs.States.{marksIn, progress, stateIn}
 
 -- no node is marked
 marks-none : (n words : ℕ) → marksIn n (replicate words 0) ≡ replicate n false

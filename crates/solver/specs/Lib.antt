@@ -1,5 +1,3 @@
 -- The definitions that the contracts of `solver` cite.
-pub mod States
-pub mod Buffers
-pub mod Meant
+pub mod Watching
 pub mod Promises

@@ -4,34 +4,19 @@ use Prim.Native.Nat.{ℕ, _%_}
 use mathlib.Core.Bool.{Bool, not, _&&_}
 use mathlib.Core.List.{List}
 use mathlib.Core.Path.{_≡_}
-use lib.ListN.{length, set}
+use lib.ListN.{length}
 use lib.Dec.{ltb, eqb}
 use lib.Ieee.{Float}
-use Rattle.numbers.specs.Numbers.{+0, _⊕_, _⊗_}
 use Rattle.numbers.specs.Choice.{if_then_else_}
 use Rattle.refusals.specs.declared.Settings.{Settings}
 use Rattle.queue.specs.Waiting.{nobody, best, next, usual, adapted}
 use Rattle.queue.specs.Heap.{waiting}
 use Rattle.queue.specs.declared.WorkQueue.{WorkQueue}
 use Rattle.rules.specs.Ways.{Way}
-use Rattle.rules.specs.Rules.{State, Watch, at, stops, due, turn, run}
-use Rattle.solver.specs.States.{progress, stateIn, SameBeyond, NoneBeyond}
-use Rattle.solver.specs.Buffers.{Lent}
-use Rattle.solver.specs.declared.Progress.{Progress}
-
--- the residual and the queue
-pub record Moved (meant : Way → Type 0) (f : Way → State → State) (n : ℕ) (residual : List Float) (q : WorkQueue) (priorities : List Float) (nodes : List ℕ)
-    (residual′ : List Float) (q′ : WorkQueue) (priorities′ : List Float) (nodes′ queued′ : List ℕ) : Type 0 where
-  pub lent : Lent n q′ residual′ priorities′ nodes′ queued′
-  pub state : (way : Way) → meant way → (estimate : List Float) (pushes : ℕ) (visited : List ℕ)
-      → stateIn n estimate residual′ (progress q′ pushes) priorities′ nodes′ visited ≡ f way (stateIn n estimate residual (progress q pushes) priorities nodes visited)
-
--- the estimate, the residual and the queue
-pub record Pushed (meant : Way → Type 0) (f : Way → State → State) (n : ℕ) (estimate residual : List Float) (q : WorkQueue) (priorities : List Float) (nodes : List ℕ)
-    (estimate′ residual′ : List Float) (q′ : WorkQueue) (priorities′ : List Float) (nodes′ queued′ : List ℕ) : Type 0 where
-  pub lent : Lent n q′ residual′ priorities′ nodes′ queued′
-  pub state : (way : Way) → meant way → (pushes : ℕ) (visited : List ℕ)
-      → stateIn n estimate′ residual′ (progress q′ pushes) priorities′ nodes′ visited ≡ f way (stateIn n estimate residual (progress q pushes) priorities nodes visited)
+use Rattle.rules.specs.Rules.{State, Watch, stops, due, turn, run}
+use Rattle.pushes.specs.States.{stateIn, SameBeyond, NoneBeyond}
+use Rattle.pushes.specs.Buffers.{Lent}
+use Rattle.pushes.specs.declared.Progress.{Progress}
 
 -- the whole state
 pub record Visited (meant : Way → Type 0) (f : Way → State → State) (n : ℕ) (estimate residual : List Float) (p : Progress) (priorities : List Float) (nodes visited : List ℕ)
@@ -39,13 +24,6 @@ pub record Visited (meant : Way → Type 0) (f : Way → State → State) (n : �
   pub lent : Lent n (p′ .queue) residual′ priorities′ nodes′ queued′
   pub state : (way : Way) → meant way → stateIn n estimate′ residual′ p′ priorities′ nodes′ visited′ ≡ f way (stateIn n estimate residual p priorities nodes visited)
   pub beyond : SameBeyond n visited visited′
-
--- ---- the parts of a visit
-
--- the estimate of v took its part of the residual, which is cleared
-pub record Absorbed (alpha : Float) (v : ℕ) (estimate residual estimate′ residual′ : List Float) : Type 0 where
-  pub estimate-is : estimate′ ≡ set estimate v (at estimate v ⊕ (alpha ⊗ at residual v))
-  pub residual-is : residual′ ≡ set residual v +0
 
 -- the threshold adapts where a number of pushes is reached
 pub record Adapted (adaptive : Bool) (pushes : ℕ) (q q′ : WorkQueue) : Type 0 where

@@ -3,7 +3,7 @@ use mathlib.Core.Path.{ap, _∙_}
 use denote.Ref.{now}
 use lib.ListN.{length}
 use Rattle.rules.specs.Rules.{State}
-use Rattle.solver.specs.States.{stateIn}
+use Rattle.pushes.specs.States.{stateIn}
 use Rattle.calls.specs.Promises.{countsOf}
 use Rattle.calls.proofs.Counting.{few-words, counts-are}
 use borrow.Author.Needs.{needs}

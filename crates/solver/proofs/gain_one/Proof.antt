@@ -4,7 +4,7 @@ use borrow.Author.Tests.{lt-ltb, le-ltb}
 use lib.ListN.{length-set}
 use Rattle.numbers.specs.Choice.{if_then_else_}
 use Rattle.rules.specs.Rules.{each, inside, gain}
-use Rattle.solver.specs.States.{stateIn}
+use Rattle.pushes.specs.States.{stateIn}
 use borrow.Author.Needs.{needs}
 use Rattle.solver.proofs.gain_one.Statement.{statement}
 use Rattle.solver.proofs.gain_one.Tie as tie

@@ -1,7 +1,7 @@
 -- `solver::goes_on` meets its contract. Assumes nothing.
 use mathlib.Core.Path.{sym, _∙_}
 use borrow.Author.Tests.{lt-ltb, le-ltb}
-use Rattle.solver.specs.States.{stateIn}
+use Rattle.pushes.specs.States.{stateIn}
 use Rattle.solver.specs.Promises.{goesOn}
 use borrow.Author.Needs.{needs}
 use Rattle.solver.proofs.goes_on.Statement.{statement}

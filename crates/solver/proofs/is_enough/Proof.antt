@@ -8,7 +8,7 @@ use denote.Ref.{now}
 use lib.ListN.{length, getD}
 use lib.Ieee.{Float, nan, inf, fin, lt}
 use Rattle.rules.specs.Rules.{stops}
-use Rattle.solver.specs.States.{stateIn}
+use Rattle.pushes.specs.States.{stateIn}
 use borrow.Author.Needs.{needs}
 use Rattle.solver.proofs.is_enough.Statement.{statement}
 use Rattle.solver.proofs.is_enough.Tie as tie

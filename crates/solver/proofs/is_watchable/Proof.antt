@@ -1,6 +1,6 @@
 -- `solver::is_watchable` meets its contract. Assumes nothing.
 use Rattle.rules.specs.Rules.{watchable}
-use Rattle.solver.specs.States.{watchIn}
+use Rattle.solver.specs.Watching.{watchIn}
 use borrow.Author.Needs.{needs}
 use Rattle.solver.proofs.is_watchable.Statement.{statement}
 use Rattle.solver.proofs.is_watchable.Tie as tie

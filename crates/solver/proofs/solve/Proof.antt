@@ -2,8 +2,8 @@
 use mathlib.Core.Path.{_∙_}
 use denote.Ref.{now}
 use lib.ListN.{length}
-use Rattle.solver.specs.States.{watchIn}
-use Rattle.solver.proofs.Standing.{weighs}
+use Rattle.solver.specs.Watching.{watchIn}
+use Rattle.pushes.proofs.Standing.{weighs}
 use Rattle.solver.proofs.Running.{solved}
 use borrow.Author.Needs.{needs}
 use Rattle.solver.proofs.solve.Statement.{statement}

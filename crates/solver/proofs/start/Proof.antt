@@ -3,7 +3,8 @@ use mathlib.Core.Path.{sym, ap, _∙_}
 use denote.Ref.{now}
 use lib.ListN.{length}
 use Rattle.rules.specs.Rules.{each, inside, gain, offer}
-use Rattle.solver.specs.States.{watchIn, stateIn}
+use Rattle.solver.specs.Watching.{watchIn}
+use Rattle.pushes.specs.States.{stateIn}
 use Rattle.solver.proofs.Starting.{start-some, start-none}
 use borrow.Author.Needs.{needs}
 use Rattle.solver.proofs.start.Statement.{statement}

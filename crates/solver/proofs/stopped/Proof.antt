@@ -1,6 +1,6 @@
 -- `solver::stopped` meets its contract. Assumes nothing.
 use Rattle.rules.specs.Rules.{stops}
-use Rattle.solver.specs.States.{watchIn}
+use Rattle.solver.specs.Watching.{watchIn}
 use borrow.Author.Needs.{needs}
 use Rattle.solver.proofs.stopped.Statement.{statement}
 use Rattle.solver.proofs.stopped.Tie as tie

@@ -3,7 +3,7 @@ use mathlib.Core.Path.{ap, _∙_}
 use denote.Ref.{now}
 use lib.ListN.{length}
 use Rattle.rules.specs.Rules.{visit, turn}
-use Rattle.solver.specs.States.{stateIn}
+use Rattle.pushes.specs.States.{stateIn}
 use Rattle.solver.proofs.Moves.{queued-state}
 use Rattle.queue.proofs.Settle.{waiting-length}
 use Rattle.solver.proofs.Nexts.{next-inside}

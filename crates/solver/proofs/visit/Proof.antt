@@ -4,10 +4,10 @@ use mathlib.Core.Path.{refl, ap, _∙_}
 use denote.Ref.{now}
 use lib.ListN.{length}
 use Rattle.rules.specs.Rules.{counted}
-use Rattle.solver.specs.States.{stateIn}
+use Rattle.pushes.specs.States.{stateIn}
 use Rattle.solver.proofs.Moves.{marks-beyond, counted-state}
-use Rattle.solver.proofs.Standing.{weighs}
-use Rattle.solver.proofs.Tested.{visit-skips, visit-counts}
+use Rattle.pushes.proofs.Standing.{weighs}
+use Rattle.pushes.proofs.Tested.{visit-skips, visit-counts}
 use borrow.Author.Needs.{needs}
 use Rattle.solver.proofs.visit.Statement.{statement}
 use Rattle.solver.proofs.visit.Tie as tie

@@ -14,8 +14,8 @@ use Rattle.graph.specs.Store.{chosen, degreesIn, Rowed}
 use Rattle.graph.proofs.Read.{degrees-are, start-le, start-inside}
 use Rattle.rules.specs.Ways.{Way, wayOf, degreeOf}
 use Rattle.rules.specs.Rules.{at}
-use Rattle.solver.specs.Buffers.{Rows}
-use Rattle.solver.specs.Meant.{Weighs, Stands}
+use Rattle.pushes.specs.Buffers.{Rows}
+use Rattle.pushes.specs.Meant.{Weighs, Stands}
 
 -- one of two lists that are as long
 pub chosen-long : {A : Type 0} (backward : Bool) (x y : List A) → length y ≡ length x → length (chosen backward x y) ≡ length x

@@ -1,8 +1,8 @@
--- `solver::effective` meets its contract. Assumes nothing.
+-- `pushes::effective` meets its contract. Assumes nothing.
 use Rattle.numbers.specs.Choice.{if_then_else_}
 use Rattle.rules.specs.Ways.{effective}
-use Rattle.solver.proofs.effective.Statement.{statement}
-use Rattle.solver.proofs.effective.Tie as tie
+use Rattle.pushes.proofs.effective.Statement.{statement}
+use Rattle.pushes.proofs.effective.Tie as tie
 
 returns : tie.Need-returns
 unfolding effective if_then_else_

@@ -1,4 +1,4 @@
--- What the buffers of a solve stand for: the state of the rules, and the node that is watched. Assumes nothing.
+-- What the buffers of a solve stand for: the state of the rules. Assumes nothing.
 use Prim.Native.Nat.{ℕ, _≤_}
 use mathlib.Core.Bool.{Bool, false}
 use mathlib.Core.List.{List}
@@ -8,16 +8,8 @@ use Rattle.numbers.specs.Tables.{tabulate}
 use Rattle.marks.specs.Marks.{marked}
 use Rattle.queue.specs.Heap.{waiting}
 use Rattle.queue.specs.declared.WorkQueue.{WorkQueue}
-use Rattle.rules.specs.Rules as Rules
-use Rattle.rules.specs.Rules.{State, unwatched, watched}
-use Rattle.solver.specs.declared.Watch.{Watch}
-use Rattle.solver.specs.declared.Watch.the-variants.{Nobody, Node}
-use Rattle.solver.specs.declared.Progress.{Progress}
-
--- the node that is watched, as the rules have it
-unfoldable pub watchIn : Watch → Rules.Watch
-watchIn Nobody = unwatched
-watchIn (Node v precision) = watched v precision
+use Rattle.rules.specs.Rules.{State}
+use Rattle.pushes.specs.declared.Progress.{Progress}
 
 -- which of n nodes are marked
 unfoldable pub marksIn : ℕ → List ℕ → List Bool

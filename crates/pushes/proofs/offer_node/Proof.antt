@@ -1,11 +1,11 @@
--- `solver::offer_node` meets its contract, by `offer-state`: a node that waits is left as it is whatever it is offered at (`stays-held`). Assumes nothing.
+-- `pushes::offer_node` meets its contract, by `offer-state`: a node that waits is left as it is whatever it is offered at (`stays-held`). Assumes nothing.
 use mathlib.Core.Path.{refl, sym, _∙_}
 use denote.Ref.{now}
 use Rattle.queue.proofs.Enter.{stays-held}
-use Rattle.solver.proofs.Moves.{offer-state}
+use Rattle.pushes.proofs.Moves.{offer-state}
 use borrow.Author.Needs.{needs}
-use Rattle.solver.proofs.offer_node.Statement.{statement}
-use Rattle.solver.proofs.offer_node.Tie as tie
+use Rattle.pushes.proofs.offer_node.Statement.{statement}
+use Rattle.pushes.proofs.offer_node.Tie as tie
 
 is-marked-requires : tie.Need-is-marked-requires
 is-marked-requires c κs = search needs

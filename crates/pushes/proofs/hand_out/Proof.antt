@@ -1,11 +1,11 @@
--- `solver::hand_out` meets its contract: the rest goes through the row (`hand-through`), or back (`hand-back`). Assumes nothing.
+-- `pushes::hand_out` meets its contract: the rest goes through the row (`hand-through`), or back (`hand-back`). Assumes nothing.
 use native.Mathlib.Omega.{arith}
 use mathlib.Core.Path.{_∙_}
-use Rattle.solver.proofs.Standing.{columns-fit, weights-fit, row-paired, row-made, row-inside, weighs}
-use Rattle.solver.proofs.Tested.{hand-through, hand-back}
+use Rattle.pushes.proofs.Standing.{columns-fit, weights-fit, row-paired, row-made, row-inside, weighs}
+use Rattle.pushes.proofs.Tested.{hand-through, hand-back}
 use borrow.Author.Needs.{needs}
-use Rattle.solver.proofs.hand_out.Statement.{statement}
-use Rattle.solver.proofs.hand_out.Tie as tie
+use Rattle.pushes.proofs.hand_out.Statement.{statement}
+use Rattle.pushes.proofs.hand_out.Tie as tie
 
 mul-degree : tie.Need-mul-degree
 mul-degree c = search needs

@@ -1,9 +1,9 @@
--- `solver::share` meets its contract. Assumes nothing.
+-- `pushes::share` meets its contract. Assumes nothing.
 use borrow.Author.Needs.{needs}
 use Rattle.numbers.specs.Choice.{if_then_else_}
 use Rattle.rules.specs.Ways.{transition, shareOf}
-use Rattle.solver.proofs.share.Statement.{statement}
-use Rattle.solver.proofs.share.Tie as tie
+use Rattle.pushes.proofs.share.Statement.{statement}
+use Rattle.pushes.proofs.share.Tie as tie
 
 effective-requires : tie.Need-effective-requires
 effective-requires c κs = search needs

@@ -13,9 +13,9 @@ use Rattle.graph.specs.Rows.{entry, entriesOf}
 use Rattle.queue.specs.declared.WorkQueue.{WorkQueue}
 use Rattle.rules.specs.Ways.{Way, shareOf}
 use Rattle.rules.specs.Rules.{State, at, each, gain, offer, pass}
-use Rattle.solver.specs.States.{progress, stateIn}
-use Rattle.solver.specs.Buffers.{Lent}
-use Rattle.solver.specs.Meant.{Along}
+use Rattle.pushes.specs.States.{progress, stateIn}
+use Rattle.pushes.specs.Buffers.{Lent}
+use Rattle.pushes.specs.Meant.{Along}
 
 -- what holds at the entry i
 pub record Spreading (backward : Bool) (rest degree : Float) (columns : List ℕ) (weights degrees outs : List Float)

@@ -1,4 +1,4 @@
--- `solver::spread` meets its contract. Invariant: `Spreading`. Assumes nothing.
+-- `pushes::spread` meets its contract. Invariant: `Spreading`. Assumes nothing.
 use Prim.Native.Nat.{_+_, _-_, _<_, _≤_, zero-le}
 use native.Mathlib.Omega.{arith}
 use mathlib.Core.Path.{refl, sym, ap, _∙_}
@@ -6,10 +6,10 @@ use denote.Ref.{now}
 use lib.ListN.{length, drop, drop-of-length-le}
 use Rattle.graph.specs.Rows.{entriesOf}
 use Rattle.rules.specs.Rules.{each, pass}
-use Rattle.solver.proofs.Spreading.{Spreading, one-passes}
+use Rattle.pushes.proofs.Spreading.{Spreading, one-passes}
 use borrow.Author.Needs.{needs}
-use Rattle.solver.proofs.spread.Statement.{statement}
-use Rattle.solver.proofs.spread.Tie as tie
+use Rattle.pushes.proofs.spread.Statement.{statement}
+use Rattle.pushes.proofs.spread.Tie as tie
 
 abbrev Inv-loop : tie.InvT-loop
 Inv-loop backward rest degree columns weights degrees outs residual₀ priorities₀ nodes₀ queued₀ w₀ i₀ residual priorities nodes queued w i = Spreading backward rest degree columns weights degrees outs residual₀ priorities₀ nodes₀ queued₀ w₀ residual priorities nodes queued w i

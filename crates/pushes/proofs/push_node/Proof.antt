@@ -1,15 +1,15 @@
--- `solver::push_node` meets its contract: nothing moves (`push-none`), or the estimate takes its part and the rest is handed out (`push-some`).
+-- `pushes::push_node` meets its contract: nothing moves (`push-none`), or the estimate takes its part and the rest is handed out (`push-some`).
 -- Assumes nothing.
 use mathlib.Core.Path.{ap, _∙_}
 use denote.Ref.{now}
 use lib.ListN.{length}
 use Rattle.rules.specs.Rules.{handOut}
-use Rattle.solver.specs.States.{progress, stateIn}
-use Rattle.solver.proofs.Moves.{absorb-state}
-use Rattle.solver.proofs.Tested.{push-none, push-some}
+use Rattle.pushes.specs.States.{progress, stateIn}
+use Rattle.pushes.proofs.Moves.{absorb-state}
+use Rattle.pushes.proofs.Tested.{push-none, push-some}
 use borrow.Author.Needs.{needs}
-use Rattle.solver.proofs.push_node.Statement.{statement}
-use Rattle.solver.proofs.push_node.Tie as tie
+use Rattle.pushes.proofs.push_node.Statement.{statement}
+use Rattle.pushes.proofs.push_node.Tie as tie
 
 mul-mass : tie.Need-mul-mass
 mul-mass c = search needs

@@ -1,9 +1,9 @@
--- `solver::pass_on` meets its contract: a gain, and what `offer_node` does. Assumes nothing.
+-- `pushes::pass_on` meets its contract: a gain, and what `offer_node` does. Assumes nothing.
 use Rattle.rules.specs.Rules.{gain}
-use Rattle.solver.specs.States.{stateIn}
+use Rattle.pushes.specs.States.{stateIn}
 use borrow.Author.Needs.{needs}
-use Rattle.solver.proofs.pass_on.Statement.{statement}
-use Rattle.solver.proofs.pass_on.Tie as tie
+use Rattle.pushes.proofs.pass_on.Statement.{statement}
+use Rattle.pushes.proofs.pass_on.Tie as tie
 
 mul-residual : tie.Need-mul-residual
 mul-residual c = search needs
