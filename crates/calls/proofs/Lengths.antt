@@ -1,6 +1,6 @@
 -- Lengths that are tested in parts are tested as a whole, and a call in which other lengths are tested besides. Assumes nothing.
 use Prim.Native.Nat.{ℕ}
-use mathlib.Core.Bool.{Bool, true, false, not, _||_}
+use mathlib.Core.Bool.{Bool, true, false, not, _||_, or-assoc, or-false}
 use mathlib.Core.List.{List, [], _∷_, _++_}
 use mathlib.Core.Path.{_≡_, refl, sym, ap, _∙_}
 use lib.Dec.{eqb}
@@ -16,14 +16,6 @@ use Rattle.calls.specs.Outcomes.{givenRows, givenLinks, ends}
 use Rattle.calls.specs.Promises.{Settles}
 
 -- ---- tests in parts
-
-or-assoc : (a b d : Bool) → ((a || b) || d) ≡ (a || (b || d))
-or-assoc true b d = refl
-or-assoc false b d = refl
-
-or-false : (b : Bool) → (b || false) ≡ b
-or-false true = refl
-or-false false = refl
 
 -- what failed before stands beside the others
 unlike-beside : (a b : Bool) (ps : List (ℕ × ℕ)) → unlike (a || b) ps ≡ (a || unlike b ps)

@@ -50,46 +50,44 @@ fn is_wrong(w: f64) -> bool
     !is_within(0.0, 1048576.0, w)
 }
 
-// Whether one of the weights is wrong.
+// Whether one of the weights is wrong. These three look at every element, found or not, so that a compiler can
+// look at several at once.
 fn any_wrong(weights: &[f64]) -> bool
     ensures { λ r. ⌜ r ≡ any wrong (now (weights .entry)) ⌝ }
 {
+    let mut found = false;
     let mut i: usize = 0;
     while i < weights.len() {
-        if is_wrong(weights[i]) {
-            return true;
-        }
+        found = found | is_wrong(weights[i]);
         i += 1;
     }
-    false
+    found
 }
 
 // Whether one of the columns is not below n.
 fn any_past(n: u32, columns: &[u32]) -> bool
     ensures { λ r. ⌜ r ≡ any (λ v. leb n v) (now (columns .entry)) ⌝ }
 {
+    let mut found = false;
     let mut i: usize = 0;
     while i < columns.len() {
-        if n <= columns[i] {
-            return true;
-        }
+        found = found | (n <= columns[i]);
         i += 1;
     }
-    false
+    found
 }
 
 // Whether the numbers fall somewhere.
 fn any_fall(starts: &[u32]) -> bool
     ensures { λ r. ⌜ r ≡ falls (now (starts .entry)) ⌝ }
 {
+    let mut found = false;
     let mut i: usize = 0;
     while i + 1 < starts.len() {
-        if starts[i + 1] < starts[i] {
-            return true;
-        }
+        found = found | (starts[i + 1] < starts[i]);
         i += 1;
     }
-    false
+    found
 }
 
 // What stands at i, or 0 past the end.
