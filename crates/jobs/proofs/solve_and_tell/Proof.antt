@@ -1,7 +1,6 @@
 -- `jobs::solve_and_tell` meets its contract: what the solve answers and leaves is the job's text. Assumes nothing.
 use mathlib.Core.Path.{sym, _∙_}
 use native.Mathlib.Omega.{arith}
-use lib.ListN.{length}
 use Rattle.calls.specs.Lent.{solveLent, linksLent}
 use Rattle.jobs.proofs.Texts.{solve-writes}
 use borrow.Author.Needs.{needs}
