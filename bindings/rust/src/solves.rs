@@ -59,6 +59,15 @@ macro_rules! backward {
     }};
 }
 
+/// Lends an entry of both solvers a pair of vectors for each, and takes its answer.
+macro_rules! joined {
+    ($graph:ident, $entry:ident($($asked:expr),*), $rows:tt) => {{
+        let (mut forward, mut backward) = (Vectors::new($graph.size()), Vectors::new($graph.size()));
+        let scored = backward!($graph, $entry($($asked),*), $rows, forward.lent(), backward.lent());
+        Joined::of(scored, forward, backward)
+    }};
+}
+
 macro_rules! calls {
     (
         $form:ident, counted $counted:ident, workspace for $rows:tt,
@@ -158,12 +167,7 @@ macro_rules! calls {
                 forward_settings: Settings,
                 backward_settings: Settings,
             ) -> Result<Joined, Refusal> {
-                let (mut forward, mut backward) = (Vectors::new(self.size()), Vectors::new(self.size()));
-                let scored = backward!(
-                    self, $bidirectional(source, target, forward_settings, backward_settings), $rows,
-                    forward.lent(), backward.lent()
-                );
-                Joined::of(scored, forward, backward)
+                joined!(self, $bidirectional(source, target, forward_settings, backward_settings), $rows)
             }
 
             /// By the degrees of source and target: one of the solves alone, or `solve_bidirectional`.
@@ -174,12 +178,7 @@ macro_rules! calls {
                 forward_settings: Settings,
                 backward_settings: Settings,
             ) -> Result<Joined, Refusal> {
-                let (mut forward, mut backward) = (Vectors::new(self.size()), Vectors::new(self.size()));
-                let scored = backward!(
-                    self, $adaptive(source, target, forward_settings, backward_settings), $rows,
-                    forward.lent(), backward.lent()
-                );
-                Joined::of(scored, forward, backward)
+                joined!(self, $adaptive(source, target, forward_settings, backward_settings), $rows)
             }
         }
     };
