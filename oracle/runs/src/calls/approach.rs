@@ -14,6 +14,9 @@ pub enum Approach {
 
 static TAKEN: [AtomicU64; 4] = [const { AtomicU64::new(0) }; 4];
 
+/// How many solves had one node as source and target.
+static FROM_A_NODE_TO_ITSELF: AtomicU64 = AtomicU64::new(0);
+
 impl Approach {
     /// What docs/RULES.md says, on the raw degrees.
     pub fn of(graph: &PushGraph, source: u32, target: u32) -> Self {
@@ -42,6 +45,9 @@ impl Approach {
 pub fn reached(graph: &PushGraph, source: u32, target: u32) -> Approach {
     let approach = Approach::of(graph, source, target);
     TAKEN[approach as usize].fetch_add(1, Relaxed);
+    if source == target && approach != Approach::Nowhere {
+        FROM_A_NODE_TO_ITSELF.fetch_add(1, Relaxed);
+    }
     approach
 }
 
@@ -54,4 +60,8 @@ pub fn taken() -> [(&'static str, u64); 4] {
         ("together", count(Approach::Together)),
         ("nowhere", count(Approach::Nowhere)),
     ]
+}
+
+pub fn from_a_node_to_itself() -> u64 {
+    FROM_A_NODE_TO_ITSELF.load(Relaxed)
 }

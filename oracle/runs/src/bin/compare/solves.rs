@@ -43,6 +43,8 @@ pub fn compare(asked: &Asked, solver: Solver, comparison: &mut Comparison, rando
     solves.largest(comparison, random);
     if solver == Solver::Bidirectional {
         comparison.reached("adaptive_solve, each approach", &approach::taken());
+        let to_itself = [("of them", approach::from_a_node_to_itself())];
+        comparison.reached("adaptive_solve, from a node to itself", &to_itself);
     }
 }
 
@@ -172,9 +174,7 @@ impl Solves<'_> {
     fn adapting(&self, comparison: &mut Comparison, random: &mut Random) {
         let layout = Layout(self.solver);
         let mut kind = |name: &str, inputs: Vec<Call>| self.kind(comparison, name, inputs.into_iter());
-        // One of them must show a threshold that falls, which few do: a short run has as many.
-        let thousands = if self.asked.short { 500 } else { self.size(500, 10_000) };
-        kind("thousands of pushes, threshold falling", layout.thousands(random, thousands));
+        kind("thousands of pushes, threshold falling", layout.thousands(random, self.size(500, 10_000)));
         kind("queues above 10,000 that stay", layout.stars(random, self.size(8, 200)));
         kind("queues above 10,000 and then below 100", layout.waves(random, self.size(12, 400)));
         // A queue of a certain size takes a solve from many nodes.

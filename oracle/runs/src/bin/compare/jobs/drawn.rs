@@ -78,11 +78,11 @@ pub fn ways(random: &mut Random, count: u64) -> impl Iterator<Item = Input> + '_
 }
 
 /// Few nodes, pushed up to each thousand and one more, with a threshold that adapts, and with one that does not: that
-/// makes another text of some.
+/// makes another text of the first.
 pub fn thousands(random: &mut Random, count: u64) -> Vec<Input> {
     let calls = Layout(Solver::Forward).thousands(random, count);
     let both: Vec<[Input; 2]> = calls.into_iter().map(|call| with_either_mark(call.solving(QUESTION))).collect();
-    assert!(both.iter().any(|inputs| adapts(inputs)), "a threshold that adapts makes another text");
+    assert!(adapts(&both[0]), "a threshold that adapts makes another text");
     both.into_iter().flatten().collect()
 }
 

@@ -110,15 +110,14 @@ impl Layout {
         self.solve(size, Vec::new(), wish, size / 2)
     }
 
-    /// Few nodes, pushed up to each thousand and one more: the threshold falls at every one.
+    /// Few nodes, pushed up to each thousand and one more: the threshold falls at every one. The first is a node alone, whose
+    /// last pushes are between two thousands, so that a lower threshold lets more of them in.
     pub fn thousands(self, random: &mut Random, count: u64) -> Vec<Call> {
-        let found: Vec<Call> = (0..count).map(|_| self.pushed_long(random)).collect();
-        let falls = |call: &Call| {
-            let (adaptive, constant) = self.pushes(call, Task::Single);
-            adaptive > constant
-        };
-        assert!(found.iter().any(falls), "a threshold that falls lets pushes in");
-        found
+        let alone = self.solve(1, Vec::new(), wish(0.001, 0.2, 10_000), 0);
+        let (adaptive, constant) = self.pushes(&alone, Task::Single);
+        assert!(adaptive > constant, "a threshold that falls lets pushes in");
+        let drawn = (1..count).map(|_| self.pushed_long(random));
+        std::iter::once(alone).chain(drawn).collect()
     }
 
     fn pushed_long(self, random: &mut Random) -> Call {
