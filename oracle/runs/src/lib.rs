@@ -1,4 +1,4 @@
-//! What the programs `compare`, `measure`, `record` and `rust_job` share.
+//! What the programs `compare`, `measure`, `record`, `rules` and `rust_job` share.
 pub mod calls;
 pub mod comparison;
 // The wrapper's own declarations: what it calls is what is compared.

@@ -3,10 +3,10 @@
 //!
 //! `rules FOLDER`, or `rules FOLDER planted`, which writes one graph alone, and one answer of it wrong
 use repaired::graph::PushGraph;
-use repaired::solver::backward_push::{
-    BackwardPushConfig, BackwardPushResult, BackwardPushSolver, BidirectionalPushSolver,
-};
-use repaired::solver::forward_push::{ForwardPushConfig, ForwardPushSolver};
+use repaired::solver::backward_push::{BackwardPushSolver, BidirectionalPushSolver};
+use repaired::solver::forward_push::ForwardPushSolver;
+use runs::calls::theirs::Run;
+use runs::entries::Settings;
 use runs::random::Random;
 use std::fmt::Write as _;
 use std::path::Path;
@@ -79,10 +79,6 @@ fn root(x: f64) -> String {
     format!("record {{ q = {}; k = {}; is = refl; near = {near} }}", digits + (1 << 52), field - 1)
 }
 
-fn one_of(random: &mut Random, xs: &[f64]) -> f64 {
-    xs[random.below(xs.len() as u64) as usize]
-}
-
 /// A node, and now and then the first number that is none.
 fn node(random: &mut Random, n: usize) -> usize {
     let past = random.below(8) / 7;
@@ -109,7 +105,7 @@ impl Written {
     }
 
     /// The outcome of one solve, and its norm.
-    fn solve(&mut self, name: &str, direction: &str, watch: &str, from: &[usize], n: usize, r: &BackwardPushResult) {
+    fn solve(&mut self, name: &str, direction: &str, watch: &str, from: &[usize], n: usize, r: &Run) {
         let graph = self.graph;
         let pushes = r.push_count + usize::from(std::mem::take(&mut self.planted));
         let rules = format!(
@@ -128,29 +124,18 @@ impl Written {
 struct Given {
     n: usize,
     links: Vec<(usize, usize, f64)>,
-    forward: ForwardPushConfig,
-    backward: BackwardPushConfig,
+    forward: Settings,
+    backward: Settings,
 }
 
-fn settings(random: &mut Random) -> ForwardPushConfig {
+fn settings(random: &mut Random) -> Settings {
     let unit = random.unit();
-    ForwardPushConfig {
-        alpha: one_of(random, &[0.0, 0.15, 0.5, unit, unit, 1.0]),
-        epsilon: one_of(random, &[0.0, 1e-6, 0.01, 0.1, 0.25]),
-        max_pushes: random.below(21) as usize,
-        queue_threshold: one_of(random, &[0.0, 1e-8, 0.01, 0.1, 0.25]),
+    Settings {
+        alpha: random.one_of(&[0.0, 0.15, 0.5, unit, unit, 1.0]),
+        epsilon: random.one_of(&[0.0, 1e-6, 0.01, 0.1, 0.25]),
+        max_pushes: random.below(21),
+        queue_threshold: random.one_of(&[0.0, 1e-8, 0.01, 0.1, 0.25]),
         adaptive_threshold: random.below(2) == 0,
-    }
-}
-
-/// The same settings, for the other direction.
-fn backward(c: &ForwardPushConfig) -> BackwardPushConfig {
-    BackwardPushConfig {
-        alpha: c.alpha,
-        epsilon: c.epsilon,
-        max_pushes: c.max_pushes,
-        queue_threshold: c.queue_threshold,
-        adaptive_threshold: c.adaptive_threshold,
     }
 }
 
@@ -160,16 +145,15 @@ fn small(random: &mut Random) -> Given {
         .map(|_| {
             let unit = random.unit();
             let weights = [1.0, 1.0, 0.5, 2.0, 0.0, -0.0, 0.1, unit, unit, 3.0 * unit, 1e-310, 1_048_576.0];
-            (node(random, n), node(random, n), one_of(random, &weights))
+            (node(random, n), node(random, n), random.one_of(&weights))
         })
         .collect();
-    let forward = settings(random);
-    let other = settings(random);
-    Given { n, links, forward, backward: backward(&other) }
+    let (forward, backward) = (settings(random), settings(random));
+    Given { n, links, forward, backward }
 }
 
 /// The settings as antt writes them.
-fn record(c: &BackwardPushConfig) -> String {
+fn record(c: &Settings) -> String {
     format!(
         "record {{ alpha = {}; epsilon = {}; «queue_threshold» = {}; «max_pushes» = {}; «adaptive_threshold» = {} }}",
         bits(c.alpha),
@@ -184,36 +168,28 @@ fn write(w: &mut Written, g: &Given, random: &mut Random) {
     let (n, graph) = (g.n, w.graph);
     let links = listed(g.links.iter().map(|&(f, t, x)| format!("link {f} {t} ({})", bits(x))));
     writeln!(w.text, "\nabbrev links-{graph} : List Link\nlinks-{graph} = {links}").expect("a string");
-    for (name, c) in [("forward", backward(&g.forward)), ("backward", g.backward.clone())] {
-        writeln!(w.text, "\nabbrev {name}-{graph} : Settings\n{name}-{graph} = {}", record(&c)).expect("a string");
+    for (name, c) in [("forward", &g.forward), ("backward", &g.backward)] {
+        writeln!(w.text, "\nabbrev {name}-{graph} : Settings\n{name}-{graph} = {}", record(c)).expect("a string");
     }
 
     let made = PushGraph::from_edges(n, &g.links);
-    let forward = ForwardPushSolver::new(made.clone(), g.forward.clone());
-    let backward = BackwardPushSolver::new(made.clone(), g.backward.clone());
-    let both = BidirectionalPushSolver::new(made, g.forward.clone(), g.backward.clone());
+    let forward = ForwardPushSolver::new(made.clone(), g.forward.forward());
+    let backward = BackwardPushSolver::new(made.clone(), g.backward.backward());
+    let both = BidirectionalPushSolver::new(made, g.forward.forward(), g.backward.backward());
     let (source, target) = (node(random, n), node(random, n));
     let many: Vec<usize> = (0..random.below(4)).map(|_| node(random, n)).collect();
-    let precision = one_of(random, &[0.0, 0.05, 0.2, 0.5]);
+    let precision = random.one_of(&[0.0, 0.05, 0.2, 0.5]);
 
-    // the two solvers' results have the same fields
-    let same = |r: repaired::solver::forward_push::ForwardPushResult| BackwardPushResult {
-        estimate: r.estimate,
-        residual: r.residual,
-        push_count: r.push_count,
-        nodes_visited: r.nodes_visited,
-        residual_norm: r.residual_norm,
-    };
     let watch = |v: usize| format!("(watched {v} ({}))", bits(precision));
-    let from_source = same(forward.solve_single_source(source));
-    let to_target = backward.solve_single_target(target);
+    let from_source = Run::from(forward.solve_single_source(source));
+    let to_target = Run::from(backward.solve_single_target(target));
     w.solve("single-source", "forward", "unwatched", &[source], n, &from_source);
-    w.solve("many-sources", "forward", "unwatched", &many, n, &same(forward.solve_multi_source(&many)));
-    let stopped = same(forward.solve_with_target(source, target, precision));
+    w.solve("many-sources", "forward", "unwatched", &many, n, &forward.solve_multi_source(&many).into());
+    let stopped = forward.solve_with_target(source, target, precision).into();
     w.solve("with-target", "forward", &watch(target), &[source], n, &stopped);
     w.solve("single-target", "backward", "unwatched", &[target], n, &to_target);
-    w.solve("many-targets", "backward", "unwatched", &many, n, &backward.solve_multi_target(&many));
-    let stopped = backward.solve_with_source(source, target, precision);
+    w.solve("many-targets", "backward", "unwatched", &many, n, &backward.solve_multi_target(&many).into());
+    let stopped = backward.solve_with_source(source, target, precision).into();
     w.solve("with-source", "backward", &watch(source), &[target], n, &stopped);
 
     let rules = |direction: &str, v: usize| {
@@ -239,15 +215,15 @@ fn write_long(w: &mut Written) {
     const CUTS: [usize; 3] = [500, 1_000, 1_004];
     let (node, links) = ("1 (0 ∷ [])", [(0, 0, 1.0)]);
     let threshold = 0.999f64.powi(1_000) * 0.9995;
-    let settings = |max_pushes: usize| ForwardPushConfig {
+    let settings = |max_pushes: usize| Settings {
         alpha: 0.001,
         epsilon: 0.0,
-        max_pushes,
+        max_pushes: max_pushes as u64,
         queue_threshold: threshold,
         adaptive_threshold: true,
     };
     let graph = w.graph;
-    let (link, record) = (format!("link 0 0 ({}) ∷ []", bits(1.0)), record(&backward(&settings(CUTS[2]))));
+    let (link, record) = (format!("link 0 0 ({}) ∷ []", bits(1.0)), record(&settings(CUTS[2])));
     writeln!(w.text, "\nabbrev links-{graph} : List Link\nlinks-{graph} = {link}").expect("a string");
     writeln!(w.text, "\nabbrev settings-{graph} : Settings\nsettings-{graph} = {record}").expect("a string");
     for direction in ["forward", "backward"] {
@@ -256,12 +232,10 @@ fn write_long(w: &mut Written) {
         let mut turns = [CUTS[0], CUTS[1] - CUTS[0], 2 * CUTS[2] + 1 - CUTS[1]].into_iter();
         for cut in CUTS {
             let made = PushGraph::from_edges(1, &links);
-            let (pushes, estimate, residual) = if direction == "forward" {
-                let r = ForwardPushSolver::new(made, settings(cut)).solve_single_source(0);
-                (r.push_count, r.estimate, r.residual)
+            let Run { push_count: pushes, estimate, residual, .. } = if direction == "forward" {
+                ForwardPushSolver::new(made, settings(cut).forward()).solve_single_source(0).into()
             } else {
-                let r = BackwardPushSolver::new(made, backward(&settings(cut))).solve_single_target(0);
-                (r.push_count, r.estimate, r.residual)
+                BackwardPushSolver::new(made, settings(cut).backward()).solve_single_target(0).into()
             };
             let threshold = if cut < 1_000 { threshold } else { threshold * 0.9 };
             let state = format!(

@@ -28,7 +28,7 @@ pub struct Run {
     pub estimate: Vec<f64>,
     pub residual: Vec<f64>,
     pub push_count: usize,
-    nodes_visited: usize,
+    pub nodes_visited: usize,
     pub residual_norm: f64,
 }
 

@@ -17,7 +17,7 @@ use runs::comparison::Comparison;
 use runs::random::Random;
 
 /// Three whose sum from the left is not that from the right, and -0.0, whose sign a row keeps and a sum loses.
-const FEW_WEIGHTS: [f64; 4] = [0.1, 0.2, 0.3, -0.0];
+const SUMMED_WEIGHTS: [f64; 4] = [0.1, 0.2, 0.3, -0.0];
 
 pub fn compare(asked: &Asked, comparison: &mut Comparison, random: &mut Random) {
     small_lists(asked, comparison);
@@ -30,7 +30,7 @@ pub fn compare(asked: &Asked, comparison: &mut Comparison, random: &mut Random) 
 fn small_lists(asked: &Asked, comparison: &mut Comparison) {
     for links in 0..=asked.size(3, 4) as u32 {
         let name = format!("graph, every list of up to 3 nodes and {links} links");
-        comparison.kind(&name, lists::every(3, links, FEW_WEIGHTS), of_links, smaller);
+        comparison.kind(&name, lists::every(3, links, SUMMED_WEIGHTS), of_links, smaller);
     }
 }
 

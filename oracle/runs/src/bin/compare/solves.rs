@@ -20,8 +20,6 @@ use runs::comparison::Comparison;
 use runs::entries::Settings;
 use runs::random::Random;
 
-const FEW_WEIGHTS: [f64; 4] = [0.0, 0.5, 1.0, 3.0];
-
 /// What is compared of one solver's calls.
 struct Solves<'a> {
     asked: &'a Asked,
@@ -68,11 +66,11 @@ fn on_small_graphs(
     let all = wishes::grid();
     // Steps of 7 come to each place of the 600.
     let mut grid = all.clone().into_iter().cycle().step_by(7);
-    lists::every(nodes, links, FEW_WEIGHTS).flat_map(move |graph| {
+    lists::every(nodes, links, lists::FEW_WEIGHTS).flat_map(move |graph| {
         let chosen: Vec<Settings> = grid.by_ref().take(each).collect();
         let call = graph.solving(solver.first_question());
         let wished = |settings: Settings| {
-            let second = wishes::one_of(random, &all);
+            let second = random.one_of(&all);
             call.clone().wishing(wishes::with_settings(random, &call, [settings, second]))
         };
         chosen.into_iter().map(wished).collect::<Vec<_>>()

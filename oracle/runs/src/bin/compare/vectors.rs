@@ -3,7 +3,7 @@
 use crate::Asked;
 use crate::calls::buffer::{outside, unlike_numbers};
 use crate::calls::sound::MOST_NODES;
-use crate::calls::wishes::{one_of, ALPHAS};
+use crate::calls::wishes::ALPHAS;
 use repaired::graph::PushGraph;
 use repaired::solver::backward_push::{BackwardPushConfig, BackwardPushResult, BackwardPushSolver};
 use repaired::solver::forward_push::{ForwardPushConfig, ForwardPushResult, ForwardPushSolver};
@@ -170,17 +170,17 @@ fn of_size(random: &mut Random, entry: Entry, size: usize) -> Case {
     // One special makes a sum infinite or a NaN, whatever the others are: so in half of the calls there is none.
     let specials = random.below(2) == 0;
     let mut number = || {
-        let special = one_of(random, &[0.0, -0.0, 5e-324, -1.0, f64::MAX, f64::INFINITY, f64::NEG_INFINITY, f64::NAN]);
+        let special = random.one_of(&[0.0, -0.0, 5e-324, -1.0, f64::MAX, f64::INFINITY, f64::NEG_INFINITY, f64::NAN]);
         match random.below(4) {
             0 if specials => special,
-            0 => one_of(random, &[0.0, -0.0, 5e-324, -f64::MIN_POSITIVE, -1.0]),
+            0 => random.one_of(&[0.0, -0.0, 5e-324, -f64::MIN_POSITIVE, -1.0]),
             _ if patterns => f64::from_bits(random.next()),
             _ => random.unit(),
         }
     };
     let read = (0..entry.vectors()).map(|_| (0..size).map(|_| number()).collect()).collect();
     let unit = random.unit();
-    Case { entry, read, alpha: one_of(random, &[0.0, -0.0, 0.15, 0.5, 1.0, unit]), length: size }
+    Case { entry, read, alpha: random.one_of(&[0.0, -0.0, 0.15, 0.5, 1.0, unit]), length: size }
 }
 
 /// Every length that is one off, and each two, with an alpha that passes and with one that does not.

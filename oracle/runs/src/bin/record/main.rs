@@ -7,13 +7,8 @@ mod recorder;
 mod solver;
 mod solves;
 
-use runs::random::Random;
 use std::io::{self, Write};
 use std::{env, process};
-
-fn one_of<T: Copy>(random: &mut Random, choices: &[T]) -> T {
-    choices[random.below(choices.len() as u64) as usize]
-}
 
 fn main() -> io::Result<()> {
     let recording = match env::args().nth(1).as_deref() {

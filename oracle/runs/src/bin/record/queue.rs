@@ -3,7 +3,6 @@
 //!
 //! The recording is a list of records of 16 bytes, little-endian: what is done (u16), a node (u16), the size of the
 //! queue afterwards (u32) and a number (f64).
-use crate::one_of;
 use repaired::graph::WorkQueue;
 use runs::random::Random;
 
@@ -129,22 +128,22 @@ fn mixes(r: &mut Recorder, random: &mut Random) {
     for round in 0..40u64 {
         let few = 1 + random.below(48);
         let length = 20 + random.below(400);
-        let threshold = one_of(random, &[0.0, 0.25, 0.5, 0.75, 2.0]);
+        let threshold = random.one_of(&[0.0, 0.25, 0.5, 0.75, 2.0]);
         r.start(threshold);
-        r.mix(random, few, length, 4 + round % 5, |random| one_of(random, &EQUAL));
+        r.mix(random, few, length, 4 + round % 5, |random| random.one_of(&EQUAL));
         r.pop_all();
 
-        let threshold = one_of(random, &[0.0, -0.0]);
+        let threshold = random.one_of(&[0.0, -0.0]);
         r.start(threshold);
-        r.mix(random, few, length, 6, |random| one_of(random, &ZEROS));
+        r.mix(random, few, length, 6, |random| random.one_of(&ZEROS));
         r.pop_all();
 
-        let threshold = one_of(random, &THRESHOLDS);
+        let threshold = random.one_of(&THRESHOLDS);
         r.start(threshold);
-        r.mix(random, few, length, 6, |random| one_of(random, &EXTREMES));
+        r.mix(random, few, length, 6, |random| random.one_of(&EXTREMES));
         r.pop_all();
 
-        let threshold = one_of(random, &THRESHOLDS);
+        let threshold = random.one_of(&THRESHOLDS);
         r.start(threshold);
         r.mix(random, 2_000, length, 5, any);
         r.pop_all();

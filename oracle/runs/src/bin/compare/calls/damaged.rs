@@ -132,7 +132,7 @@ pub fn pairs(entry: Entry, all_long: bool) -> impl Iterator<Item = Call> {
 /// Several random damages, of which any number may be the same, and of any number on; too many links are left to the
 /// pairs.
 pub fn several(random: &mut Random, entry: Entry, all: &[Damage]) -> Call {
-    let least = [1, 2, 2, 2, 4, 4, 5, 6][random.below(8) as usize];
+    let least = random.one_of(&[1, 2, 2, 2, 4, 4, 5, 6]);
     let chosen = all.iter().filter(|damage| !damage.long && damage.number >= least && random.below(12) == 0);
     damaged(entry, chosen.collect::<Vec<_>>())
 }

@@ -3,6 +3,9 @@ use runs::calls::call::Call;
 use runs::calls::entry::Entry;
 use runs::random::Random;
 
+/// The weights of every small list that is solved: none, below 1 and above it, where a degree counts as 1 or as itself.
+pub const FEW_WEIGHTS: [f64; 4] = [0.0, 0.5, 1.0, 3.0];
+
 /// Every list of up to `nodes` nodes and exactly `links` links, with ends up to the number of nodes, so also out of
 /// range, and with these weights.
 pub fn every(nodes: u32, links: u32, weights: [f64; 4]) -> impl Iterator<Item = Call> {
@@ -34,14 +37,13 @@ enum Weights {
 impl Weights {
     fn any(random: &mut Random) -> Self {
         use Weights::*;
-        [Ones, Units, Tenths, Specials, SpecialsAmongUnits, EverySize][random.below(6) as usize]
+        random.one_of(&[Ones, Units, Tenths, Specials, SpecialsAmongUnits, EverySize])
     }
 
     fn draw(self, random: &mut Random) -> f64 {
         let special = |random: &mut Random| {
             let subnormal = f64::from_bits(random.next() >> 12);
-            let found = [0.0, -0.0, 5e-324, subnormal, f64::MIN_POSITIVE, 1.0, 1_048_575.9999999999, 1_048_576.0];
-            found[random.below(found.len() as u64) as usize]
+            random.one_of(&[0.0, -0.0, 5e-324, subnormal, f64::MIN_POSITIVE, 1.0, 1_048_575.9999999999, 1_048_576.0])
         };
         match self {
             Weights::Ones => 1.0,
@@ -71,16 +73,16 @@ impl Ends {
         let few = 1 + random.below(u64::from(nodes.clamp(1, 20))) as u32;
         Self {
             nodes,
-            out_of_range: [0, 0, 2, 8, 100][random.below(5) as usize],
+            out_of_range: random.one_of(&[0, 0, 2, 8, 100]),
             drawn: if random.below(3) == 0 { few } else { nodes },
-            hub: [0, 0, 0, 2][random.below(4) as usize],
+            hub: random.one_of(&[0, 0, 0, 2]),
         }
     }
 
     fn draw(&self, random: &mut Random) -> u32 {
         if self.nodes == 0 || self.out_of_range > 0 && random.below(self.out_of_range) == 0 {
             let past = [0, 1, random.below(1000), u64::from(u32::MAX - self.nodes), random.below(1 << 31)];
-            return self.nodes.saturating_add(past[random.below(5) as usize] as u32);
+            return self.nodes.saturating_add(random.one_of(&past) as u32);
         }
         if self.hub > 0 && random.below(self.hub) == 0 {
             return 0;
@@ -151,7 +153,7 @@ pub fn rows(random: &mut Random, nodes: u32, links: usize, whole: bool) -> Call 
     let ends = Ends { out_of_range: 0, ..Ends::any(random, n) };
     let weights = Weights::any(random);
     // Cuts drawn from few places leave many rows empty.
-    let step = [1, 1, 1 + m as u64 / 4][random.below(3) as usize];
+    let step = random.one_of(&[1, 1, 1 + m as u64 / 4]);
     let mut starts: Vec<u32> = (1..n).map(|_| (random.below(m as u64 + 1) / step * step) as u32).collect();
     starts.push(0);
     if n > 0 {

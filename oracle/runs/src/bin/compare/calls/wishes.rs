@@ -133,10 +133,6 @@ pub fn grid() -> Vec<Settings> {
     found
 }
 
-pub fn one_of<T: Copy>(random: &mut Random, choices: &[T]) -> T {
-    choices[random.below(choices.len() as u64) as usize]
-}
-
 /// The next number up from one that is not below zero.
 pub fn next_up(number: f64) -> f64 {
     f64::from_bits(number.to_bits() + 1)
@@ -159,14 +155,15 @@ pub fn with_settings(random: &mut Random, call: &Call, settings: [Settings; 2]) 
     let most = STEPS / longest_row(call).max(1);
     let [settings, backward_settings] =
         settings.map(|settings| Settings { max_pushes: settings.max_pushes.min(most), ..settings });
-    let many = [0, 1, 2, 3, random.below(10), random.below(100)][random.below(6) as usize];
+    let (ten, hundred) = (random.below(10), random.below(100));
+    let many = random.one_of(&[0, 1, 2, 3, ten, hundred]);
     let unit = random.unit();
     let (source, other) = (node(random, call), node(random, call));
     Wish {
         source,
         target: if random.below(8) == 0 { source } else { other },
         many: (0..many).map(|_| node(random, call)).collect(),
-        precision: one_of(random, &[0.0, -0.0, 5e-324, 1e-9, 1e-3 * unit, 0.1 * unit, unit, 1.0, f64::MAX]),
+        precision: random.one_of(&[0.0, -0.0, 5e-324, 1e-9, 1e-3 * unit, 0.1 * unit, unit, 1.0, f64::MAX]),
         settings,
         backward_settings,
     }
@@ -175,12 +172,12 @@ pub fn with_settings(random: &mut Random, call: &Call, settings: [Settings; 2]) 
 fn settings(random: &mut Random) -> Settings {
     let unit = random.unit();
     let (hundred, thousands) = (random.below(100), random.below(5_000));
-    let few = one_of(random, &[0, 1, 2, 10, hundred]);
-    let many = one_of(random, &[999, 1_000, 1_001, 1_999, 2_000, 2_001, thousands]);
+    let few = random.one_of(&[0, 1, 2, 10, hundred]);
+    let many = random.one_of(&[999, 1_000, 1_001, 1_999, 2_000, 2_001, thousands]);
     Settings {
-        alpha: one_of(random, &[0.0, -0.0, 0.15, 0.15, 0.5, unit, 0.01 * unit, 1.0]),
-        epsilon: one_of(random, &[0.0, 0.0, -0.0, 1e-300, 1e-6, 1e-3 * unit, 0.25]),
-        queue_threshold: one_of(random, &[0.0, 0.0, -0.0, 1e-300, 1e-8, 1e-5, 1e-3 * unit, 0.25, 2.0]),
+        alpha: random.one_of(&[0.0, -0.0, 0.15, 0.15, 0.5, unit, 0.01 * unit, 1.0]),
+        epsilon: random.one_of(&[0.0, 0.0, -0.0, 1e-300, 1e-6, 1e-3 * unit, 0.25]),
+        queue_threshold: random.one_of(&[0.0, 0.0, -0.0, 1e-300, 1e-8, 1e-5, 1e-3 * unit, 0.25, 2.0]),
         max_pushes: if random.below(8) == 0 { many } else { few },
         adaptive_threshold: random.below(2) == 0,
     }
@@ -191,8 +188,8 @@ fn node(random: &mut Random, call: &Call) -> u32 {
     let nodes = u64::from(call.nodes);
     let out_of_range = [nodes, nodes + random.below(70), u64::from(u32::MAX)];
     match random.below(16) {
-        0 => one_of(random, &out_of_range) as u32,
-        1..=8 if !call.second.is_empty() => one_of(random, &call.second),
+        0 => random.one_of(&out_of_range) as u32,
+        1..=8 if !call.second.is_empty() => random.one_of(&call.second),
         _ if nodes > 0 => random.below(nodes) as u32,
         _ => 0,
     }

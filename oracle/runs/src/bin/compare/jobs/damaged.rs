@@ -3,7 +3,7 @@ use super::input::Input;
 use super::limits::ENTRY;
 use crate::calls::lists;
 use crate::calls::sound::{sound, with_links};
-use crate::calls::wishes::{self, one_of};
+use crate::calls::wishes;
 use runs::calls::call::{Call, Wish};
 use runs::calls::refusal::refusal;
 use runs::jobs::bytes::{call_in, laid_out, MOST_LINKS, MOST_NODES, MOST_SOURCES, QUESTION};
@@ -172,7 +172,7 @@ pub fn several(random: &mut Random, count: u64) -> impl Iterator<Item = Input> +
         let among = if random.below(2) == 0 { 56 } else { bytes.len() as u64 };
         for _ in 0..1 + random.below(3) {
             let any = random.next() as u8;
-            bytes[random.below(among) as usize] = one_of(random, &[0, 1, 0x7f, 0x80, 0xff, any]);
+            bytes[random.below(among) as usize] = random.one_of(&[0, 1, 0x7f, 0x80, 0xff, any]);
         }
         let input = Input::new(bytes);
         if ends(&input) {

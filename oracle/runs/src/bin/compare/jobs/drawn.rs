@@ -3,7 +3,7 @@
 use super::input::Input;
 use super::limits::ENTRY;
 use crate::calls::lists;
-use crate::calls::wishes::{self, one_of};
+use crate::calls::wishes;
 use crate::solves::Layout;
 use runs::calls::call::{Call, Wish};
 use runs::calls::entry::Solver;
@@ -13,13 +13,11 @@ use runs::jobs::program::Way;
 use runs::jobs::text::text;
 use runs::random::Random;
 
-const FEW_WEIGHTS: [f64; 4] = [0.0, 0.5, 1.0, 3.0];
-
 /// Every list of up to 2 nodes and so many links, each with so many settings of the grid.
 pub fn small(random: &mut Random, links: u32, each: u64) -> impl Iterator<Item = Input> + '_ {
     // Steps of 7 come to each place of the 600.
     let mut grid = wishes::grid().into_iter().cycle().step_by(7);
-    lists::every(2, links, FEW_WEIGHTS).flat_map(move |graph| {
+    lists::every(2, links, lists::FEW_WEIGHTS).flat_map(move |graph| {
         let call = graph.solving(QUESTION);
         let chosen: Vec<Settings> = grid.by_ref().take(each as usize).collect();
         let wished = |settings: Settings| {
@@ -50,7 +48,7 @@ pub fn sources(random: &mut Random, count: u64) -> impl Iterator<Item = Input> +
         let graph = lists::random(random, 8, 24, false);
         let mut call = drawn(random, graph);
         let (nodes, some) = (u64::from(call.nodes), random.below(MOST_SOURCES as u64 + 1));
-        let (from, among) = one_of(random, &[(0, 1), (0, nodes + 1), (0, nodes + 9), (nodes, 5), (nodes, 1 << 31)]);
+        let (from, among) = random.one_of(&[(0, 1), (0, nodes + 1), (0, nodes + 9), (nodes, 5), (nodes, 1 << 31)]);
         call.wish.many = (0..some).map(|_| (from + random.below(among)) as u32).collect();
         Input::of(&call)
     })
@@ -59,13 +57,13 @@ pub fn sources(random: &mut Random, count: u64) -> impl Iterator<Item = Input> +
 /// Jobs of every size, that come in pieces or as a file.
 pub fn ways(random: &mut Random, count: u64) -> impl Iterator<Item = Input> + '_ {
     (0..count).map(move |number| {
-        let (nodes, links) = one_of(random, &[(2, 1), (8, 24), (MOST_NODES, MOST_LINKS)]);
+        let (nodes, links) = random.one_of(&[(2, 1), (8, 24), (MOST_NODES, MOST_LINKS)]);
         let graph = lists::random(random, nodes, links, number % 3 == 0);
         let input = wishing(random, graph);
         let (length, some) = (input.bytes.len(), 1 + random.below(60) as usize);
         // At most some hundred pauses.
         let pieces = [1, 7, some, 4_096, 5_000, length - 1].map(|size| size.max(length / 200));
-        let way = if random.below(4) == 0 { Way::File } else { Way::Pieces(one_of(random, &pieces)) };
+        let way = if random.below(4) == 0 { Way::File } else { Way::Pieces(random.one_of(&pieces)) };
         // One in five is a byte short, or has one too many.
         let mut bytes = input.bytes;
         match random.below(10) {

@@ -1,7 +1,6 @@
 //! Graphs and settings with which the threshold adapts: long queues, short ones, and those at the very size at which it
 //! begins to. Each kind is held to what that does to the number of pushes, so that it is known to happen.
 use crate::calls::lists;
-use crate::calls::wishes::one_of;
 use runs::calls::call::{Call, Wish};
 use runs::calls::entry::{Solver, Task};
 use runs::calls::given::graph;
@@ -63,8 +62,8 @@ impl Layout {
             links.push((collector + 1 + place, collector + 1 + (place + 1) % ring, 1.0));
         }
         let threshold = (0.1 + 0.2 * random.unit()) / f64::from(leaves);
-        let alpha = one_of(random, &[0.01, 0.02]) * (1.0 + random.unit()) / f64::from(ring).sqrt();
-        let other = one_of(random, &[1, leaves, collector, collector + ring]);
+        let alpha = random.one_of(&[0.01, 0.02]) * (1.0 + random.unit()) / f64::from(ring).sqrt();
+        let other = random.one_of(&[1, leaves, collector, collector + ring]);
         self.solve(collector + ring + 1, links, wish(alpha, threshold, 500_000), other)
     }
 
@@ -134,9 +133,9 @@ fn wish(alpha: f64, queue_threshold: f64, max_pushes: u64) -> Wish {
 
 fn falling(random: &mut Random, call: &Call) -> Wish {
     let unit = random.unit();
-    let alpha = one_of(random, &[0.0, 0.001 * unit, 0.003 * unit, 0.01 * unit]);
-    let threshold = one_of(random, &[0.0, 1e-12, 1.2e-12, 1e-8, 0.001, 0.01, 0.1 * unit]);
-    let pushes = one_of(random, &[999, 1_000, 1_001, 1_999, 2_000, 2_001, 3_000, 10_000]);
+    let alpha = random.one_of(&[0.0, 0.001 * unit, 0.003 * unit, 0.01 * unit]);
+    let threshold = random.one_of(&[0.0, 1e-12, 1.2e-12, 1e-8, 0.001, 0.01, 0.1 * unit]);
+    let pushes = random.one_of(&[999, 1_000, 1_001, 1_999, 2_000, 2_001, 3_000, 10_000]);
     let node = |random: &mut Random| random.below(u64::from(call.nodes) + 1) as u32;
     let (source, target) = (node(random), node(random));
     // Half of the nodes come twice as often.

@@ -1,6 +1,6 @@
 //! Graphs in which one of the two degrees that `adaptive_solve` compares, the source's and the target's, is twice the
 //! other, or the next number up or down: there it turns from one approach to another.
-use crate::calls::wishes::{self, next_down, next_up, one_of};
+use crate::calls::wishes::{self, next_down, next_up};
 use runs::calls::approach::Approach;
 use runs::calls::call::{Call, Wish};
 use runs::calls::entry::Solver;
@@ -20,7 +20,7 @@ pub fn drawn(random: &mut Random, count: u64) -> Vec<Call> {
 fn one(random: &mut Random) -> Call {
     let lesser = lesser(random);
     let twice = 2.0 * lesser.iter().fold(0.0, |sum, weight| sum + weight);
-    let greater = one_of(random, &[twice, next_up(twice), next_down(twice)]);
+    let greater = random.one_of(&[twice, next_up(twice), next_down(twice)]);
     let parts = split(random, greater);
     let (degrees, past) = if random.below(2) == 0 {
         (Degrees { leaving: parts, arriving: lesser }, Approach::Backward)
@@ -36,7 +36,7 @@ fn one(random: &mut Random) -> Call {
 
 /// Weights of which the greater degree, or its half, is still a weight that passes.
 fn lesser(random: &mut Random) -> Vec<f64> {
-    let single = one_of(random, &[5e-324, f64::MIN_POSITIVE, 0.1, 0.25, 0.5, 1.0, 3.0, 524_288.0, 786_432.1]);
+    let single = random.one_of(&[5e-324, f64::MIN_POSITIVE, 0.1, 0.25, 0.5, 1.0, 3.0, 524_288.0, 786_432.1]);
     match random.below(4) {
         0 => Vec::new(),
         1 => vec![single],
@@ -60,7 +60,7 @@ fn split(random: &mut Random, number: f64) -> Vec<f64> {
 /// between. Half of the graphs number their nodes from the end.
 fn laid(random: &mut Random, degrees: Degrees) -> Call {
     let nodes = 3 + random.below(5) as u32;
-    let (source, target) = (0, one_of(random, &[0, 1, 1, 1]));
+    let (source, target) = (0, random.one_of(&[0, 1, 1, 1]));
     let middle = |random: &mut Random| 2 + random.below(u64::from(nodes) - 2) as u32;
     // All that arrive come from one node: reverse rows run by rising row, and so their sum is that of the list.
     let last = middle(random);

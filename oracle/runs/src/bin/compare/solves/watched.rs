@@ -1,5 +1,5 @@
 //! Solves that watch a node, with a precision near to what the whole solve gives it.
-use crate::calls::wishes::{next_down, next_up, one_of};
+use crate::calls::wishes::{next_down, next_up};
 use crate::calls::{lists, wishes};
 use runs::calls::call::Call;
 use runs::calls::entry::{Question, Solver, Task};
@@ -34,14 +34,14 @@ fn watching(random: &mut Random, solver: Solver) -> (Call, Stop) {
     let watched = if solver == Solver::Forward { call.wish.target } else { call.wish.source };
     let at_watched = |vector: &[f64]| vector.get(watched as usize).copied().unwrap_or(0.0);
     call.wish.precision = if random.below(2) == 0 {
-        at_watched(&whole.estimate) * one_of(random, &[0.0, 0.1, 0.5, 0.9, 0.99, 1.0, 2.0])
+        at_watched(&whole.estimate) * random.one_of(&[0.0, 0.1, 0.5, 0.9, 0.99, 1.0, 2.0])
     } else {
         // What is compared with the precision, or its tenth, after some of the pushes: equal to it, or next to it.
         let mut wish = call.wish.clone();
         wish.settings.max_pushes = random.below(whole.push_count as u64 + 1);
         let part = Theirs::new(solver, graph, &wish).solved(&wish, Task::Single);
         let (score, tenfold) = (at_watched(&part.estimate), at_watched(&part.residual) / 0.1);
-        one_of(random, &[score, next_down(score), tenfold, next_up(tenfold), next_down(tenfold)])
+        random.one_of(&[score, next_down(score), tenfold, next_up(tenfold), next_down(tenfold)])
     };
     let stopped = theirs.solved(&call.wish, Task::Watched).push_count;
     let stop = match stopped {

@@ -2,7 +2,6 @@
 //! refusals; a call's number is the least of those whose conditions were broken.
 use super::drawn;
 use super::recorded::{Recorded, FIRST, SECOND, THIRD};
-use crate::one_of;
 use runs::calls::call::Wish;
 use runs::calls::entry::{Entry, Task};
 use runs::entries::Settings;
@@ -106,7 +105,7 @@ pub fn refused<'a>(random: &mut Random, entry: Entry, some: impl Iterator<Item =
 /// Calls with a few damages each, of which two of one number, or one twice, may undo each other: so none has two lengths
 /// or two weights damaged.
 pub fn several(random: &mut Random, entries: &[Entry]) -> (Recorded, u32) {
-    let entry = one_of(random, entries);
+    let entry = random.one_of(entries);
     let all = damages(entry);
     let mut chosen: Vec<&Damage> = Vec::new();
     for _ in 0..4 {

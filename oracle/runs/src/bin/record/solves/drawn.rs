@@ -1,6 +1,5 @@
 //! Small graphs, settings, sources and targets, drawn so that each kind that the push rules tell apart comes often.
 use super::recorded::{Recorded, LINKS, NODES};
-use crate::one_of;
 use runs::calls::call::Wish;
 use runs::calls::entry::{Entry, Question, Solver, Task};
 use runs::entries::Settings;
@@ -9,7 +8,7 @@ use runs::random::Random;
 /// A node, and one time in 16 a number that is none.
 fn node(random: &mut Random, n: u32) -> u32 {
     if n == 0 || random.below(16) == 0 {
-        return one_of(random, &[n, n + 1, n + 63, 65_535]);
+        return random.one_of(&[n, n + 1, n + 63, 65_535]);
     }
     random.below(u64::from(n)) as u32
 }
@@ -37,7 +36,7 @@ const WEIGHTS: [Weights; 7] = [
 
 fn special(random: &mut Random) -> f64 {
     let subnormal = f64::from_bits(random.next() >> 12);
-    one_of(random, &[0.0, 0.0, -0.0, 5e-324, subnormal, f64::MIN_POSITIVE, 1_048_575.9999999999, 1_048_576.0])
+    random.one_of(&[0.0, 0.0, -0.0, 5e-324, subnormal, f64::MIN_POSITIVE, 1_048_575.9999999999, 1_048_576.0])
 }
 
 impl Weights {
@@ -79,7 +78,7 @@ fn unplanned(random: &mut Random, n: u32) -> Vec<(u32, u32)> {
 pub fn links(random: &mut Random, n: u32) -> Vec<(u32, u32, f64)> {
     let mut ends = if n > 0 && random.below(3) == 0 { planned(random, n) } else { unplanned(random, n) };
     ends.truncate(LINKS);
-    let weights = one_of(random, &WEIGHTS);
+    let weights = random.one_of(&WEIGHTS);
     ends.into_iter().map(|(from, to)| (from, to, weights.draw(random))).collect()
 }
 
@@ -89,28 +88,28 @@ pub fn settings(random: &mut Random) -> Settings {
     let (unit, adaptive_threshold) = (random.unit(), random.below(2) == 0);
     let (alpha, epsilon, queue_threshold, max_pushes) = match random.below(5) {
         0 | 1 => (
-            one_of(random, &[0.01, 0.15, 0.15, 0.5, unit]),
-            one_of(random, &[0.0, 1e-9, 1e-6, 1e-3]),
-            one_of(random, &[0.0, 1e-12, 1e-8, 1e-6, 1e-3]),
-            one_of(random, &[7, 20, 40, 80, 160, 320]),
+            random.one_of(&[0.01, 0.15, 0.15, 0.5, unit]),
+            random.one_of(&[0.0, 1e-9, 1e-6, 1e-3]),
+            random.one_of(&[0.0, 1e-12, 1e-8, 1e-6, 1e-3]),
+            random.one_of(&[7, 20, 40, 80, 160, 320]),
         ),
         2 => (
             0.5,
-            one_of(random, &[0.5, 0.25, 0.125, 0.0625]),
-            one_of(random, &[0.0, 0.25, 0.125, 0.0625]),
-            one_of(random, &[2, 3, 20]),
+            random.one_of(&[0.5, 0.25, 0.125, 0.0625]),
+            random.one_of(&[0.0, 0.25, 0.125, 0.0625]),
+            random.one_of(&[2, 3, 20]),
         ),
         3 => (
-            one_of(random, &[0.0, -0.0, 1.0, 1.0]),
-            one_of(random, &[0.0, -0.0]),
-            one_of(random, &[0.0, -0.0]),
-            one_of(random, &[3, 20, 50]),
+            random.one_of(&[0.0, -0.0, 1.0, 1.0]),
+            random.one_of(&[0.0, -0.0]),
+            random.one_of(&[0.0, -0.0]),
+            random.one_of(&[3, 20, 50]),
         ),
         _ => (
-            one_of(random, &[0.0, -0.0, 5e-324, 1e-3, unit, 0.85, 1.0]),
-            one_of(random, &[0.0, -0.0, 1e-310, 0.01, 0.1 * unit, 0.25, 0.75]),
-            one_of(random, &[0.0, -0.0, 5e-324, 0.01, 0.1 * unit, 0.25, 1.0, 2.0]),
-            one_of(random, &[0, 1, 2, 3, 50, 640]),
+            random.one_of(&[0.0, -0.0, 5e-324, 1e-3, unit, 0.85, 1.0]),
+            random.one_of(&[0.0, -0.0, 1e-310, 0.01, 0.1 * unit, 0.25, 0.75]),
+            random.one_of(&[0.0, -0.0, 5e-324, 0.01, 0.1 * unit, 0.25, 1.0, 2.0]),
+            random.one_of(&[0, 1, 2, 3, 50, 640]),
         ),
     };
     Settings { alpha, epsilon, queue_threshold, max_pushes, adaptive_threshold }
@@ -121,7 +120,7 @@ fn end(random: &mut Random, n: u32, links: &[(u32, u32, f64)], which: impl Fn(&(
     if links.is_empty() || random.below(4) == 0 {
         return node(random, n);
     }
-    which(&links[random.below(links.len() as u64) as usize])
+    which(&random.one_of(links))
 }
 
 /// Whether the entry begins at its target.
@@ -140,7 +139,7 @@ pub fn solve(random: &mut Random, entry: Entry) -> Recorded {
     let start = |link: &(u32, u32, f64)| if starts_at_target(entry) { link.1 } else { link.0 };
     let many: Vec<u32> = (0..count).map(|_| end(random, n, &links, start)).collect();
     let precision = if entry.task() == Some(Task::Watched) {
-        one_of(random, &[0.0, -0.0, 5e-324, 1e-9, 1e-6, 1e-3, 0.05, 0.125, 0.25, 0.5, 2.0])
+        random.one_of(&[0.0, -0.0, 5e-324, 1e-9, 1e-6, 1e-3, 0.05, 0.125, 0.25, 0.5, 2.0])
     } else {
         0.0
     };
@@ -169,11 +168,11 @@ pub fn watched(random: &mut Random, entry: Entry) -> Recorded {
         alpha: 0.5,
         epsilon: 0.0,
         max_pushes: 20,
-        queue_threshold: one_of(random, &[0.0, 1e-6]),
+        queue_threshold: random.one_of(&[0.0, 1e-6]),
         adaptive_threshold: false,
     };
     let steps = random.below(u64::from(n) - 1) as u32;
-    let precision = one_of(random, &[1.0, 0.5]) / f64::from(2u32 << steps);
+    let precision = random.one_of(&[1.0, 0.5]) / f64::from(2u32 << steps);
     let (source, target) = if starts_at_target(entry) { (n - 1 - steps, n - 1) } else { (0, steps) };
     let wish = Wish { source, target, many: Vec::new(), precision, settings, backward_settings: settings };
     Recorded::on_links(entry, n, &links, wish)
@@ -185,9 +184,9 @@ pub fn long(random: &mut Random, entry: Entry, adaptive: bool) -> Recorded {
     let n = 1 + random.below(6) as u32;
     let links: Vec<_> = (0..n).map(|v| (v, (v + 1) % n, 1.0)).collect();
     let alpha = 1e-3 * (0.5 + random.unit());
-    let near = one_of(random, &[0.9999, 0.9999, 1.0001]);
+    let near = random.one_of(&[0.9999, 0.9999, 1.0001]);
     let left = |pushes: u32| (0..pushes).fold(near, |left, _| left * (1.0 - alpha));
-    let threshold = one_of(random, &[left(1_000), left(1_000), left(2_000), left(2_000) / 0.9]);
+    let threshold = random.one_of(&[left(1_000), left(1_000), left(2_000), left(2_000) / 0.9]);
     let settings = Settings {
         alpha,
         epsilon: 0.0,
@@ -197,7 +196,7 @@ pub fn long(random: &mut Random, entry: Entry, adaptive: bool) -> Recorded {
     };
     let (start, other) = (random.below(u64::from(n)) as u32, random.below(u64::from(n)) as u32);
     let (source, target) = ends(entry, start, other);
-    let precision = one_of(random, &[1e-3, 1.0]);
+    let precision = random.one_of(&[1e-3, 1.0]);
     let wish = Wish { source, target, many: vec![start], precision, settings, backward_settings: settings };
     Recorded::on_links(entry, n, &links, wish)
 }

@@ -1,7 +1,6 @@
 //! A call that takes vectors and alpha alone, of which the settings have the rest as well, and how it is drawn and damaged.
 use super::drawn;
 use super::recorded::NODES;
-use crate::one_of;
 use runs::calls::entry::Entry;
 use runs::entries::Settings;
 use runs::random::Random;
@@ -32,9 +31,9 @@ pub fn drawn(random: &mut Random, entries: &[Entry], answers: usize) -> Vectors 
     let n = random.below(NODES as u64 + 1);
     let mut vector = |_| -> Vec<f64> {
         let number = |_| match random.below(3) {
-            0 => one_of(random, &[0.0, -0.0, 5e-324, -f64::MIN_POSITIVE, f64::MAX, -f64::MAX, 1.0]),
+            0 => random.one_of(&[0.0, -0.0, 5e-324, -f64::MIN_POSITIVE, f64::MAX, -f64::MAX, 1.0]),
             1 => random.unit() - 0.5,
-            _ => f64::from_bits(random.below(f64::INFINITY.to_bits())) * one_of(random, &[1.0, -1.0]),
+            _ => f64::from_bits(random.below(f64::INFINITY.to_bits())) * random.one_of(&[1.0, -1.0]),
         };
         (0..n).map(number).collect()
     };
