@@ -96,6 +96,11 @@ impl Solves<'_> {
         comparison.kind(&format!("{}, {name}", self.solver.name()), inputs, of_graph, smaller);
     }
 
+    /// Demands that the inputs of the solver reached each of the named things.
+    fn reached(&self, comparison: &mut Comparison, name: &str, counts: &[(&str, u64)]) {
+        comparison.reached(&format!("{}, {name}", self.solver.name()), counts);
+    }
+
     fn small_graphs(&self, comparison: &mut Comparison, random: &mut Random) {
         let classes = [
             (3, 0, self.size(600, 600)),
@@ -171,20 +176,25 @@ impl Solves<'_> {
 
     fn adapting(&self, comparison: &mut Comparison, random: &mut Random) {
         let layout = Layout(self.solver);
-        let mut kind = |name: &str, inputs: Vec<Call>| self.kind(comparison, name, inputs.into_iter());
-        kind("thousands of pushes, threshold falling", layout.thousands(random, self.size(500, 10_000)));
-        kind("queues above 10,000 that stay", layout.stars(random, self.size(8, 200)));
-        kind("queues above 10,000 and then below 100", layout.waves(random, self.size(12, 400)));
+        let inputs = layout.thousands(random, self.size(500, 10_000));
+        self.kind(comparison, "thousands of pushes, threshold falling", inputs.into_iter());
+        let (inputs, shown) = layout.stars(random, self.size(8, 200));
+        self.kind(comparison, "queues above 10,000 that stay", inputs.into_iter());
+        self.reached(comparison, "a threshold that rises leaves pushes out", &[("queues", shown)]);
+        let (inputs, shown) = layout.waves(random, self.size(12, 400));
+        self.kind(comparison, "queues above 10,000 and then below 100", inputs.into_iter());
+        self.reached(comparison, "a threshold that rises and falls changes the pushes", &[("queues", shown)]);
         // A queue of a certain size takes a solve from many nodes.
         if self.solver != Solver::Bidirectional {
-            kind("queues at the sizes where the threshold adapts", layout.edges());
+            self.kind(comparison, "queues at the sizes where the threshold adapts", layout.edges().into_iter());
         }
     }
 
     fn watched_and_many(&self, comparison: &mut Comparison, random: &mut Random) {
         // Some must stop early, some late and some never: a short run has enough of them for that too.
-        let inputs = watched::stopping(random, self.solver, self.size(2_000, 40_000).max(100));
+        let (inputs, stops) = watched::stopping(random, self.solver, self.size(2_000, 40_000).max(100));
         self.kind(comparison, "watched nodes reached early, late and never", inputs.into_iter());
+        self.reached(comparison, "watched nodes reached", &stops);
         let sizes = [1, 3, 1_000, MOST_NODES];
         let inputs = sizes.into_iter().filter(|&nodes| self.asked.draws(nodes)).flat_map(|nodes| {
             let turns = 0..self.size(2, 20);

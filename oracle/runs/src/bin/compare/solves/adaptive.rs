@@ -1,5 +1,6 @@
 //! Graphs and settings with which the threshold adapts: long queues, short ones, and those at the very size at which it
-//! begins to. Each kind is held to what that does to the number of pushes, so that it is known to happen.
+//! begins to. Each kind is held to what that does to the number of pushes, so that it is known to happen: by an assertion where
+//! the plan makes it so, and where graphs are drawn by a count of those that show it.
 use crate::calls::lists;
 use runs::calls::call::{Call, Wish};
 use runs::calls::entry::{Solver, Task};
@@ -24,6 +25,24 @@ impl Layout {
         (count(true), count(false))
     }
 
+    /// So many solves that are drawn, and how many of them show what they are for by their pushes: with a threshold that
+    /// adapts, and with one that does not.
+    fn drawn(
+        self,
+        random: &mut Random,
+        count: u64,
+        draw: fn(Self, &mut Random) -> Call,
+        shows: fn(usize, usize) -> bool,
+    ) -> (Vec<Call>, u64) {
+        let found: Vec<Call> = (0..count).map(|_| draw(self, random)).collect();
+        let shown = found.iter().filter(|call| {
+            let (adaptive, constant) = self.pushes(call, Task::Single);
+            shows(adaptive, constant)
+        });
+        let shown = shown.count() as u64;
+        (found, shown)
+    }
+
     /// A solve from node 0; the other end of a query is `other`.
     fn solve(self, nodes: u32, mut links: Vec<(u32, u32, f64)>, wish: Wish, other: u32) -> Call {
         let (mut source, mut target) = (0, other);
@@ -37,14 +56,9 @@ impl Layout {
 
     /// A first node with a link to each of many leaves, from each of those one to a collector, and from there into a
     /// ring of few nodes. The queue holds more than 10,000 nodes while the leaves are pushed, which raises the
-    /// threshold, and fewer than 100 while the ring is, which lowers it.
-    pub fn waves(self, random: &mut Random, count: u64) -> Vec<Call> {
-        let found: Vec<Call> = (0..count).map(|_| self.wave(random)).collect();
-        for call in &found {
-            let (adaptive, constant) = self.pushes(call, Task::Single);
-            assert!(adaptive > 20_000 && adaptive != constant, "a threshold that adapts changes a wave");
-        }
-        found
+    /// threshold, and fewer than 100 while the ring is, which lowers it. Counted are those of which that changes the pushes.
+    pub fn waves(self, random: &mut Random, count: u64) -> (Vec<Call>, u64) {
+        self.drawn(random, count, Self::wave, |adaptive, constant| adaptive > 20_000 && adaptive != constant)
     }
 
     fn wave(self, random: &mut Random) -> Call {
@@ -68,14 +82,9 @@ impl Layout {
     }
 
     /// A first node with a link to each of many nodes that have none: the queue stays long, so that the threshold
-    /// rises, and with it nodes are left out.
-    pub fn stars(self, random: &mut Random, count: u64) -> Vec<Call> {
-        let found: Vec<Call> = (0..count).map(|_| self.star(random)).collect();
-        for call in &found {
-            let (adaptive, constant) = self.pushes(call, Task::Single);
-            assert!(adaptive > 10_000 && adaptive < constant, "a threshold that rises leaves pushes out");
-        }
-        found
+    /// rises, and with it nodes are left out. Counted are those of which that leaves pushes out.
+    pub fn stars(self, random: &mut Random, count: u64) -> (Vec<Call>, u64) {
+        self.drawn(random, count, Self::star, |adaptive, constant| adaptive > 10_000 && adaptive < constant)
     }
 
     fn star(self, random: &mut Random) -> Call {

@@ -16,12 +16,12 @@ enum Stop {
     Never,
 }
 
-/// Some stop early, some late, some never.
-pub fn stopping(random: &mut Random, solver: Solver, count: u64) -> Vec<Call> {
-    let found: Vec<(Call, Stop)> = (0..count).map(|_| watching(random, solver)).collect();
-    let any = |stop: Stop| found.iter().any(|(_, found)| *found == stop);
-    assert!(any(Stop::Early) && any(Stop::Late) && any(Stop::Never), "nodes are reached early, late and never");
-    found.into_iter().map(|(call, _)| call).collect()
+/// Some stop early, some late, some never; counted is how many do each.
+pub fn stopping(random: &mut Random, solver: Solver, count: u64) -> (Vec<Call>, [(&'static str, u64); 3]) {
+    let (calls, stops): (Vec<Call>, Vec<Stop>) = (0..count).map(|_| watching(random, solver)).unzip();
+    let number = |stop: Stop| stops.iter().filter(|found| **found == stop).count() as u64;
+    let counts = [("early", number(Stop::Early)), ("late", number(Stop::Late)), ("never", number(Stop::Never))];
+    (calls, counts)
 }
 
 fn watching(random: &mut Random, solver: Solver) -> (Call, Stop) {
