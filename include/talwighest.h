@@ -39,9 +39,9 @@ extern "C" {
 #endif
 
 /* The settings of a solve, which go by value; refusal 6 says what they may be. A node's priority is its residual over its
-   degree, or over 1 where the degree is less: at queue_threshold or above it enters the queue, and what is below epsilon when
-   it leaves the queue is skipped. adaptive_threshold lets the threshold rise and fall with the queue's size; max_pushes
-   ends the solve. */
+   degree, or over 1 where the degree is less: at queue_threshold or above the node enters the queue with it, and keeps it there.
+   When it leaves the queue, it is skipped where its residual is by then below epsilon times that degree, or times 1.
+   adaptive_threshold lets the threshold rise and fall with the queue's size; max_pushes ends the solve. */
 struct Settings {
     double alpha;
     double epsilon;

@@ -16,7 +16,7 @@ pub enum Refusal {
     UnsoundRows = 4,
     /// A weight, of a dropped link too, is a NaN, infinite, below zero or above 1,048,576.
     UnsoundWeight = 5,
-    /// Alpha is not in 0 to 1, a threshold is not finite or below zero, or max_pushes is above 1,000,000,000.
+    /// Alpha is not in 0 to 1, epsilon or queue_threshold is not finite or below zero, or max_pushes is above 1,000,000,000.
     UnsoundSettings = 6,
     /// A precision is not finite or below zero.
     UnsoundPrecision = 7,
@@ -55,7 +55,9 @@ impl Display for Refusal {
             Self::WrongLength => "a list has another length than stated",
             Self::UnsoundRows => "the starts of rows are not in order, or a column is no node",
             Self::UnsoundWeight => "a weight is not from 0 to 1,048,576",
-            Self::UnsoundSettings => "alpha is not from 0 to 1, a threshold is not from 0 up, or max_pushes is above 1,000,000,000",
+            Self::UnsoundSettings => {
+                "alpha is not from 0 to 1, epsilon or queue_threshold is not from 0 up, or max_pushes is above 1,000,000,000"
+            }
             Self::UnsoundPrecision => "a precision is not from 0 up",
         };
         write!(out, "refused with {}: {reason}", self.number())
