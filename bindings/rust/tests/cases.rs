@@ -1,30 +1,8 @@
 //! The cases that docs/RULES.md works out by hand, in both forms.
-use talwighest::{combine_with_forward, compute_residual_norm, extrapolated_solution, square_root};
-use talwighest::{Links, Rows, Settings, Solution};
+mod chain;
 
-/// Alpha, epsilon and threshold of the cases, and at most so many pushes.
-fn settings(max_pushes: u64) -> Settings {
-    Settings { alpha: 0.5, epsilon: 0.25, queue_threshold: 0.25, max_pushes, adaptive_threshold: false }
-}
-
-const CHAIN: Links = Links { n: 2, from: &[0], to: &[1], weight: &[1.0] };
-const CHAIN_ROWS: Rows = Rows { n: 2, starts: &[0, 1, 1], columns: &[1], weights: &[1.0] };
-
-/// P1, which every forward solve of the chain gives that isn't stopped early.
-fn forward() -> Solution {
-    Solution {
-        estimate: vec![0.5, 0.375],
-        residual: vec![0.0, 0.125],
-        push_count: 3,
-        nodes_visited: 2,
-        residual_norm: 0.125,
-    }
-}
-
-/// P8.
-fn backward() -> Solution {
-    Solution { estimate: vec![0.375, 0.5], residual: vec![0.125, 0.0], ..forward() }
-}
+use chain::{backward, forward, settings, CHAIN, CHAIN_ROWS};
+use talwighest::{combine_with_forward, square_root, Links, Solution};
 
 #[test]
 fn p1_forward_from_the_chain() {
@@ -66,9 +44,6 @@ fn p8_backward_to_the_end_of_the_chain() {
     assert_eq!(CHAIN_ROWS.solve_multi_target(&[1], settings(10)), Ok(backward()));
     assert_eq!(CHAIN.solve_with_source(0, 1, 1.0, settings(10)), Ok(backward()));
     assert_eq!(CHAIN_ROWS.solve_with_source(0, 1, 1.0, settings(10)), Ok(backward()));
-    let reached = CHAIN.reachability_probabilities(1, settings(10)).unwrap();
-    assert_eq!(reached, CHAIN_ROWS.reachability_probabilities(1, settings(10)).unwrap());
-    assert_eq!(reached.solution, vec![0.4375, 0.5]);
 }
 
 #[test]
@@ -89,32 +64,17 @@ fn p11_a_share_is_lost_of_a_source_that_is_no_node() {
 }
 
 #[test]
-fn p12_square_roots_and_what_stands_on_vectors() {
+fn p12_square_roots() {
     assert_eq!(square_root(2.0).to_bits(), 0x3ff6_a09e_667f_3bcd);
-    assert_eq!(compute_residual_norm(&[3.0, 4.0]), 5.0);
-    assert_eq!(extrapolated_solution(&[0.5, 0.375], &[0.0, 0.125], 0.5), Ok(vec![0.5, 0.4375]));
+    assert_eq!(square_root(f64::from_bits(1)), 2f64.powi(-537));
 }
 
 #[test]
-fn queries_and_the_approach_by_degrees() {
-    assert_eq!(CHAIN.query_single_entry(0, 1, settings(10)).unwrap().score, 0.375);
-    assert_eq!(CHAIN.query_transition_probability(0, 1, settings(10)).unwrap().score, 0.375);
+fn the_approach_by_degrees() {
     // Three links leave node 0 and one arrives at node 1: the backward solve is enough, and the forward pair stays +0.
     let fan = Links { n: 4, from: &[0, 0, 0], to: &[1, 2, 3], weight: &[1.0; 3] };
     let alone = fan.adaptive_solve(0, 1, settings(10), settings(10)).unwrap();
     let solved = fan.solve_single_target(1, settings(10)).unwrap();
     assert_eq!((alone.score, &alone.backward_estimate), (solved.estimate[0], &solved.estimate));
     assert_eq!(alone.forward_estimate, vec![0.0; 4]);
-}
-
-#[test]
-fn rows_of_links_of_which_one_is_dropped() {
-    let links = Links { n: 3, from: &[2, 0, 1, 0], to: &[1, 2, 3, 1], weight: &[1.0, 0.5, 4.0, 2.0] };
-    let built = links.from_edges().unwrap();
-    assert_eq!((&built.starts[..], &built.columns[..], &built.weights[..]), (&[0, 2, 2, 3][..], &[2, 1, 1][..], &[0.5, 2.0, 1.0][..]));
-    assert_eq!(built.rows().row_sums(), Ok(vec![2.5, 0.0, 1.0]));
-    let matrix = built.rows().from_matrix().unwrap();
-    assert_eq!(Ok(&matrix.reverse), built.rows().transpose().as_ref());
-    assert_eq!(matrix.reverse.columns, vec![0, 2, 0]);
-    assert_eq!((matrix.degrees, matrix.reverse_degrees), (vec![2.5, 0.0, 1.0], vec![0.0, 3.0, 0.5]));
 }
