@@ -43,16 +43,17 @@ together alpha b f n = combined alpha (b .estimate) (b .residual) (f .estimate) 
 pub data Method : Type 0 where
   neither backwardAlone forwardAlone both : Method
 
--- Backward alone where the source's out-degree is above 2 × the target's in-degree, else forward alone where that is above 2 × the out-degree, else
--- both; neither where a number is out of range.
+-- By the source's out-degree and the target's in-degree, both raw: backward alone where out(source) > 2 × in(target), else forward alone where
+-- in(target) > 2 × out(source), else both.
+unfoldable pub byDegrees : Float → Float → Method
+byDegrees outward inward =
+    let two = f64 0x4000_0000_0000_0000 in
+    if lt (inward ⊗ two) outward then backwardAlone else (if lt (outward ⊗ two) inward then forwardAlone else both)
+
+-- by the degrees that the rows of n nodes give; neither where a number is out of range
 unfoldable pub method : ℕ → List (List Entry) → ℕ → ℕ → Method
 method n rows source target =
-    let outward = degreeOf (over forward n rows) source in
-    let inward = degreeOf (over backward n rows) target in
-    let two = f64 0x4000_0000_0000_0000 in
-    if ltb source n && ltb target n
-    then (if lt (inward ⊗ two) outward then backwardAlone else (if lt (outward ⊗ two) inward then forwardAlone else both))
-    else neither
+    if ltb source n && ltb target n then byDegrees (degreeOf (over forward n rows) source) (degreeOf (over backward n rows) target) else neither
 
 -- what it answers, from the backward and the forward solve; alpha is the backward one
 unfoldable pub answerBy : Method → Float → ℕ → ℕ → ℕ → State → State → Float

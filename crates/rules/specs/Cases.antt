@@ -22,7 +22,7 @@ use Rattle.rules.specs.Ways.{forward, backward, effective, transition, s
 use Rattle.rules.specs.Rules.{each, State, unwatched, watched, blank, queued, gain, absorb, counted, offer, pass, handOut, push, stops, due, skips, visit, turn, onward, run}
 use Rattle.rules.specs.Rules.{inside, watchable, begun, start, enough, solve}
 use Rattle.rules.specs.Pushed.{pushed, distinct}
-use Rattle.rules.specs.Answers.{visitedCount, combined, together, neither, backwardAlone, forwardAlone, both, method}
+use Rattle.rules.specs.Answers.{visitedCount, scoreAt, extrapolated, combined, together, neither, backwardAlone, forwardAlone, both, byDegrees, method}
 
 -- ---- numbers
 
@@ -123,7 +123,9 @@ pub record Worked : Type 0 where
   pub chain-distinct : distinct (0 ∷ 1 ∷ 1 ∷ []) ≡ 0 ∷ 1 ∷ []
   -- P2: no nodes, or a source out of range
   pub no-nodes : shown (solved forward 0 [] (usually 10) (0 ∷ [])) ≡ outcome 0 0 [] []
+  pub no-nodes-norm : Norm (solved forward 0 [] (usually 10) (0 ∷ []) .residual) +0
   pub out-of-range : shown (solved forward 2 (chain one) (usually 10) (2 ∷ [])) ≡ outcome 0 0 (+0 ∷ +0 ∷ []) (+0 ∷ +0 ∷ [])
+  pub out-of-range-norm : Norm (solved forward 2 (chain one) (usually 10) (2 ∷ []) .residual) +0
   -- P3: no pushes
   pub no-pushes : shown (solved forward 2 (chain one) (usually 0) (0 ∷ [])) ≡ outcome 0 0 (+0 ∷ +0 ∷ []) (one ∷ +0 ∷ [])
   pub no-pushes-norm : Norm (solved forward 2 (chain one) (usually 0) (0 ∷ []) .residual) one
@@ -140,6 +142,10 @@ pub record Worked : Type 0 where
   pub chain-backward : shown against ≡ outcome 3 2 (f64 0x3fd8_0000_0000_0000 ∷ half ∷ []) (eighth ∷ +0 ∷ [])
   -- P9: P1 and P8 combined
   pub chain-together : together half against along 2 ≡ f64 0x3fdc_0000_0000_0000
+  -- the extrapolated vector of P1, and a score out of range
+  pub chain-extrapolated : extrapolated half 2 (along .estimate) (along .residual) ≡ half ∷ f64 0x3fdc_0000_0000_0000 ∷ []
+  pub score-inside : scoreAt along 1 ≡ f64 0x3fd8_0000_0000_0000
+  pub score-out-of-range : scoreAt along 2 ≡ +0
   -- P10: an out-degree below 1
   pub light-backward : shown (solved backward 2 (chain half) (usually 1) (1 ∷ [])) ≡ outcome 1 1 (+0 ∷ half ∷ []) (quarter ∷ +0 ∷ [])
   -- P11: the share of a source out of range is lost
@@ -158,6 +164,8 @@ pub record Worked : Type 0 where
   pub own-link : shown (solved forward 1 (link 0 0 one ∷ []) (usually 1) (0 ∷ [])) ≡ outcome 1 1 (half ∷ []) (half ∷ [])
   -- the priority of a node that waits stays where a second link brings it more: 2 is pushed before 1, which has more by then
   pub priority-stays : shown (solved forward 3 (link 0 1 five-quarters ∷ link 0 2 three-halves ∷ link 0 1 five-quarters ∷ []) (set-to half eighth eighth 2) (0 ∷ [])) ≡ outcome 2 2 (half ∷ +0 ∷ f64 0x3fb8_0000_0000_0000 ∷ []) (+0 ∷ f64 0x3fd4_0000_0000_0000 ∷ f64 0x3fb8_0000_0000_0000 ∷ [])
+  -- a skip between two pushes uses up no push: node 1 has the higher priority and is skipped, and node 2 is pushed after it
+  pub skipped-between : shown (solved forward 3 (link 0 1 (f64 0x3fe8_0000_0000_0000) ∷ link 0 2 quarter ∷ link 0 2 one ∷ []) (set-to half quarter +0 2) (0 ∷ [])) ≡ outcome 2 2 (half ∷ +0 ∷ f64 0x3fc4_0000_0000_0000 ∷ []) (+0 ∷ f64 0x3fc8_0000_0000_0000 ∷ f64 0x3fc4_0000_0000_0000 ∷ [])
   -- where the degree is 0 the rest goes back, links or not
   pub weightless : shown (solved forward 2 (chain +0) (usually 1) (0 ∷ [])) ≡ outcome 1 1 (half ∷ +0 ∷ []) (half ∷ +0 ∷ [])
   -- the early stop: after one push the estimate of node 0 is above 1/4, and never above 1/2; a watched node out of range
@@ -175,7 +183,7 @@ pub record Worked : Type 0 where
 
 -- the list holds
 pub worked : Worked
-unfolding if_then_else_ tabulate howMany kept gives rowOf rowsOf sumFrom degree into intoFrom transposed taken answer offered better bestFrom next usual adapted effective transition shareOf wayOf over degreeOf each blank queued gain absorb counted offer pass handOut push stops due skips visit turn onward run inside watchable begun start enough solve pushed distinct any visitedCount combined method addSquares ofBits ofInt add sub mul div lt le odd
+unfolding if_then_else_ tabulate howMany kept gives rowOf rowsOf sumFrom degree into intoFrom transposed taken answer offered better bestFrom next usual adapted effective transition shareOf wayOf over degreeOf each blank queued gain absorb counted offer pass handOut push stops due skips visit turn onward run inside watchable begun start enough solve pushed distinct any visitedCount scoreAt extrapolated combined byDegrees method addSquares ofBits ofInt add sub mul div lt le odd
 worked =
     record {
       chain-forward = refl;
@@ -183,7 +191,9 @@ worked =
       chain-pushed = refl;
       chain-distinct = refl;
       no-nodes = refl;
+      no-nodes-norm = refl;
       out-of-range = refl;
+      out-of-range-norm = refl;
       no-pushes = refl;
       no-pushes-norm = record { q = 2 ^ 52; k = 1022; is = refl; near = record { from = lit≤ tt; to = lit< tt; over = lit< tt; under = lit< tt } };
       one-push = refl;
@@ -193,6 +203,9 @@ worked =
       tie = refl;
       chain-backward = refl;
       chain-together = refl;
+      chain-extrapolated = refl;
+      score-inside = refl;
+      score-out-of-range = refl;
       light-backward = refl;
       share-lost = refl;
       share-lost-norm = record { q = 2 ^ 52; k = 1021; is = refl; near = record { from = lit≤ tt; to = lit< tt; over = lit< tt; under = lit< tt } };
@@ -203,6 +216,7 @@ worked =
       light-forward = refl;
       own-link = refl;
       priority-stays = refl;
+      skipped-between = refl;
       weightless = refl;
       stopped = refl;
       unstopped = refl;
