@@ -7,11 +7,10 @@ use mathlib.Core.List.{List}
 use mathlib.Core.Path.{_≡_, refl, sym, ap, _∙_}
 use lib.ListN.{length, getD}
 use lib.Seq.{slice, length-slice, getD-drop, getD-take}
-use lib.Ieee.{Float, nan}
-use Rattle.numbers.proofs.Tables.{getD-tabulate, map-tabulate}
-use Rattle.graph.specs.Rows.{degree, entriesOf, rowIn, rowsIn}
-use Rattle.graph.specs.Store.{chosen, degreesIn, Rowed}
-use Rattle.graph.proofs.Read.{degrees-are, start-le, start-inside}
+use lib.Ieee.{Float}
+use Rattle.graph.specs.Rows.{degree, entriesOf, rowIn}
+use Rattle.graph.specs.Store.{chosen, Rowed}
+use Rattle.graph.proofs.Read.{start-le, start-inside, row-degree}
 use Rattle.rules.specs.Ways.{Way, wayOf, degreeOf}
 use Rattle.rules.specs.Rules.{at}
 use Rattle.pushes.specs.Buffers.{Rows}
@@ -24,11 +23,6 @@ chosen-long true x y e = e
 chosen-long false x y e = refl
 
 module _ {n : ℕ} {starts columns : List ℕ} {weights : List Float} (z : Rowed n starts columns weights) (v : ℕ) (h : v < n) where
-  -- a degree that is read is that of the row
-  degree-at : {degrees : List Float} → degrees ≡ degreesIn n starts weights → at degrees v ≡ degree (rowIn (getD starts v 0) (getD starts (suc v) 0) columns weights)
-  unfolding rowsIn
-  degree-at e = ap (λ (l : List Float). at l v) (e ∙ degrees-are z ∙ map-tabulate degree n _) ∙ getD-tabulate n _ v nan h
-
   -- the parts of a row are as long
   pub row-paired : {row : List ℕ} {part : List Float} → row ≡ slice (getD starts v 0) (getD starts (v + 1) 0) columns
       → part ≡ slice (getD starts v 0) (getD starts (v + 1) 0) weights → length part ≡ length row
@@ -74,13 +68,14 @@ module _ {n : ℕ} {backward : Bool} {starts columns columns′ : List ℕ} {wei
   -- a way with the rows has their degrees
   pub weighs : (way : Way) → Stands n backward starts columns columns′ weights weights′ outs way → (v : ℕ) → v < n → Weighs degrees v way
   unfolding degreeOf
-  weighs way s v h = degree-at (r .rowed) v h (r .degrees-are) ∙ ap degree (sym (s .rows v h))
+  weighs way s v h = ap (λ (l : List Float). at l v) (r .degrees-are) ∙ row-degree (r .rowed) v h ∙ ap degree (sym (s .rows v h))
 
 -- a way that the buffers stand for
 pub wayIn : Bool → List ℕ → List ℕ → List ℕ → List Float → List Float → List Float → Way
 wayIn backward starts columns columns′ weights weights′ outs =
     wayOf backward (λ v. rowIn (getD starts v 0) (getD starts (suc v) 0) (chosen backward columns columns′) (chosen backward weights weights′)) (at outs)
 
+-- and it is one of those that are meant, so that what is promised of all of them is said of one
 pub stands : (n : ℕ) (backward : Bool) (starts columns columns′ : List ℕ) (weights weights′ outs : List Float)
     → Stands n backward starts columns columns′ weights weights′ outs (wayIn backward starts columns columns′ weights weights′ outs)
 unfolding wayIn wayOf

@@ -1,7 +1,7 @@
 -- As many numbers below n are among a list of them as the list has distinct ones. Assumes nothing.
 use Prim.Native.Nat.{ℕ, zero, suc, _+_, _<_}
 use native.Mathlib.Omega.{arith}
-use native.Mathlib.Nat.{not-suc-le-zero}
+use native.Mathlib.Nat.{not-suc-le-zero, zero-add}
 use native.Mathlib.Decide.{ℕ-discrete}
 use mathlib.Core.Bool.{Bool, true, false, _||_, cond, or-true}
 use mathlib.Core.Path.{_≡_, refl, ap, _∙_}
@@ -12,14 +12,8 @@ use lib.Dec.{eqb}
 use Rattle.numbers.proofs.Choice.{decided}
 use Rattle.refusals.specs.Refusals.{any}
 use Rattle.marks.specs.Marks.{howMany}
-use Rattle.marks.proofs.Total.{how-many-same}
+use Rattle.marks.proofs.Total.{how-many-same, how-many-none}
 use Rattle.rules.specs.Pushed.{distinct}
-
--- no number passes a test that none passes
-how-many-none : (n : ℕ) → howMany n (λ u. false) ≡ 0
-unfolding howMany
-how-many-none zero = refl
-how-many-none (suc n) = rw (how-many-none n)
 
 -- one number more passes
 how-many-more : (n v : ℕ) (test : ℕ → Bool) → v < n → test v ≡ false → howMany n (λ u. eqb u v || test u) ≡ suc (howMany n test)
@@ -45,8 +39,8 @@ among-anyway u v vs e = by (eqb u v) refl
 
 -- the count
 pub distinct-count : (n : ℕ) (vs : List ℕ) → ((v : ℕ) → any (eqb v) vs ≡ true → v < n) → howMany n (λ u. any (eqb u) vs) ≡ length (distinct vs)
-unfolding any distinct
-distinct-count n [] h = how-many-none n
+unfolding any distinct howMany
+distinct-count n [] h = rw zero-add at (how-many-none 0 n (λ u. false) (λ u l. refl))
 distinct-count n (v ∷ vs) h =
     let more = distinct-count n vs (λ u t. h u (rw t (or-true (eqb u v)))) in
     decided (λ (l : List ℕ). howMany n (λ u. any (eqb u) (v ∷ vs)) ≡ length l) (any (eqb v) vs)

@@ -1,4 +1,4 @@
--- Whose turn it is: one who waits, while a push is left. Assumes nothing.
+-- Whose turn it is: one who waits, while a push is left. Who is next in a queue waits in it, and nobody is where nobody waits. Assumes nothing.
 use Prim.Native.Nat.{ℕ, suc, _+_, _<_}
 use native.Mathlib.Nat.{zero-add, lt-of-not-le}
 use native.Mathlib.Omega.{arith}
@@ -10,7 +10,7 @@ use lib.Ieee.{Float}
 use Rattle.numbers.proofs.Choice.{decided, either}
 use Rattle.numbers.proofs.Tests.{both}
 use Rattle.refusals.specs.declared.Settings.{Settings}
-use Rattle.queue.specs.Waiting.{Slot, out, waits, Best, nobody, best, better, bestFrom, next}
+use Rattle.queue.specs.Waiting.{Slot, out, waits, taken, Best, nobody, best, better, bestFrom, next}
 use Rattle.queue.proofs.Taken.{out-waits}
 use Rattle.rules.specs.Rules.{State, Watch, due}
 
@@ -35,23 +35,52 @@ best-of Q b u (waits q ∷ slots) h g =
     best-of Q (better b u q) (suc u) slots (better-of Q b u q h (subst (λ (x : ℕ). Q x q) (omega arith) (g 0 q refl)))
     (λ k p e. subst (λ (x : ℕ). Q x p) (omega arith) (g (suc k) p e))
 
--- a push is left, and v waits
-pub record Ready (settings : Settings) (s : State) (v : ℕ) (p : Float) : Type 0 where
+-- who is next waits
+pub next-waits : (slots : List Slot) (v : ℕ) (p : Float) → next slots ≡ best v p → getD slots v out ≡ waits p
+unfolding next
+next-waits slots v p e = subst (Of Waiting) e (best-of Waiting nobody 0 slots tt (λ k q h. rw zero-add h))
+  where
+    Waiting : ℕ → Float → Type 0
+    Waiting u q = getD slots u out ≡ waits q
+
+-- who waits has a slot
+slot-inside : (slots : List Slot) (v : ℕ) (p : Float) → getD slots v out ≡ waits p → v < length slots
+slot-inside slots v p e = lt-of-not-le (λ h. out-waits (getD slots v out) p (List·getD-eq-default slots out h) e)
+
+-- and so has who is next
+pub next-inside : (slots : List Slot) (v : ℕ) (p : Float) → next slots ≡ best v p → v < length slots
+next-inside slots v p e = slot-inside slots v p (next-waits slots v p e)
+
+-- where nobody waits, nobody is found
+found-none : (v : ℕ) (slots : List Slot) → taken slots ≡ 0 → bestFrom nobody v slots ≡ nobody
+unfolding bestFrom taken
+found-none v [] h = refl
+found-none v (out ∷ slots) h = found-none (suc v) slots h
+found-none v (waits p ∷ slots) h = absurd (omega arith)
+
+-- and so nobody is next
+pub next-none : (slots : List Slot) → taken slots ≡ 0 → next slots ≡ nobody
+unfolding next
+next-none slots h = found-none 0 slots h
+
+-- ---- whose turn it is
+
+-- v may go: a push is left, and v waits
+pub record MayGo (settings : Settings) (s : State) (v : ℕ) (p : Float) : Type 0 where
   pub left : s .pushes < settings .«max_pushes»
   pub slot : getD (s .slots) v out ≡ waits p
 
--- whose turn it is, is ready
-pub due-ready : (settings : Settings) (watch : Watch) (s : State) (v : ℕ) (p : Float) → due settings watch s ≡ best v p → Ready settings s v p
+-- whose turn it is, may go
+pub due-may-go : (settings : Settings) (watch : Watch) (s : State) (v : ℕ) (p : Float) → due settings watch s ≡ best v p → MayGo settings s v p
 unfolding due next
-due-ready settings watch s v p e = subst (Of (Ready settings s)) e all
+due-may-go settings watch s v p e = subst (Of (MayGo settings s)) e all
   where
-    all : Of (Ready settings s) (due settings watch s)
+    all : Of (MayGo settings s) (due settings watch s)
     all =
-        decided (Of (Ready settings s)) _
-        (λ t. best-of (Ready settings s) nobody 0 (s .slots) tt
+        decided (Of (MayGo settings s)) _
+        (λ t. best-of (MayGo settings s) nobody 0 (s .slots) tt
         (λ k q h. record { left = ltb-true _ _ (both _ _ t .0); slot = rw zero-add h })) (λ t. tt)
 
 -- whose turn it is, is a node of the queue
 pub due-inside : (settings : Settings) (watch : Watch) (s : State) (v : ℕ) (p : Float) → due settings watch s ≡ best v p → v < length (s .slots)
-due-inside settings watch s v p e =
-    lt-of-not-le (λ h. out-waits (getD (s .slots) v out) p (List·getD-eq-default (s .slots) out h) (due-ready settings watch s v p e .slot))
+due-inside settings watch s v p e = slot-inside (s .slots) v p (due-may-go settings watch s v p e .slot)

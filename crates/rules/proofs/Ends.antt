@@ -16,7 +16,7 @@ use Rattle.rules.specs.Rules.{State, Watch, blank, queued, counted, due,
 use Rattle.rules.proofs.Onward.{onward-by, onward-both}
 use Rattle.rules.proofs.Lengths.{start-sized}
 use Rattle.rules.proofs.Uncounted.{Uncounted, push-uncounted, start-uncounted}
-use Rattle.rules.proofs.Due.{Ready, due-ready}
+use Rattle.rules.proofs.Due.{MayGo, due-may-go}
 
 -- one that waits no more makes one fewer
 taken-fewer : (slots : List Slot) (v : ℕ) (p : Float) → getD slots v out ≡ waits p → suc (taken (set slots v out)) ≡ taken slots
@@ -47,8 +47,8 @@ counted-falls settings v s u h l =
     rw (e, h .pushes, h .slots) (product-falls _ _ _ _ (rw (h .slots) at k))
 
 module _ (way : Way) (settings : Settings) (watch : Watch) where
-  -- a turn of one who is ready lowers the measure
-  turn-falls : (s : State) (v : ℕ) (p : Float) → Ready settings s v p → measure settings (turn way settings v s) < measure settings s
+  -- a turn of one who may go lowers the measure
+  turn-falls : (s : State) (v : ℕ) (p : Float) → MayGo settings s v p → measure settings (turn way settings v s) < measure settings s
   unfolding turn visit measure queued
   turn-falls s v p h =
       let e = taken-fewer (s .slots) v p (h .slot) in
@@ -57,7 +57,7 @@ module _ (way : Way) (settings : Settings) (watch : Watch) where
 
   -- the same of whose turn it is
   pub falls : (s : State) (v : ℕ) (p : Float) → due settings watch s ≡ best v p → measure settings (turn way settings v s) < measure settings s
-  falls s v p e = turn-falls s v p (due-ready settings watch s v p e)
+  falls s v p e = turn-falls s v p (due-may-go settings watch s v p e)
 
   -- ---- a run
 

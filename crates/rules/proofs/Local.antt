@@ -20,7 +20,7 @@ use Rattle.rules.proofs.Each.{each-same}
 use Rattle.rules.proofs.Onward.{onward-both}
 use Rattle.rules.proofs.Keeps.{Closed, KeepsTurn, turn-keeps, run-keeps, start-keeps}
 use Rattle.rules.proofs.Lengths.{solve-sized}
-use Rattle.rules.proofs.Due.{due-ready}
+use Rattle.rules.proofs.Due.{due-may-go}
 
 -- the two ways agree on R: in the rows of its nodes, and in what an entry gets that leads to one of them
 pub record Agree (R : ℕ → Type 0) (a b : Way) : Type 0 where
@@ -111,7 +111,7 @@ module _ (R : ℕ → Type 0) where
 module _ (R : ℕ → Type 0) (a : Way) (c : Closed R a) (settings : Settings) (watch : Watch) (n : ℕ) (sources : List ℕ) (r : (v : ℕ) → List·Memᴰ v (begun n watch sources) → R v) where
   -- it is only ever the turn of nodes of R
   picked : (s : State) → On R s → (v : ℕ) (p : Float) → due settings watch s ≡ best v p → R v
-  picked s h v p e = h .waiters v p (due-ready settings watch s v p e .slot)
+  picked s h v p e = h .waiters v p (due-may-go settings watch s v p e .slot)
 
   -- the start is on R
   start-on : On R (start a settings watch n sources)

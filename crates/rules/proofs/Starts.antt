@@ -1,5 +1,5 @@
 -- How a solve starts: one source has residual 1, and a solve that begins nowhere ends with +0 vectors and counts of 0. Assumes nothing.
-use Prim.Native.Nat.{ℕ, zero, suc, _<_}
+use Prim.Native.Nat.{ℕ, _<_}
 use mathlib.Core.Path.{_≡_, refl}
 use mathlib.Core.List.{List, [], _∷_}
 use borrow.Author.Tests.{lt-ltb}
@@ -10,9 +10,11 @@ use Rattle.numbers.specs.Numbers.{+0, one, _⊕_, _⊘_}
 use Rattle.numbers.specs.Choice.{if_then_else_}
 use Rattle.numbers.proofs.Choice.{either}
 use Rattle.refusals.specs.declared.Settings.{Settings}
-use Rattle.queue.specs.Waiting.{out, Best, nobody, bestFrom, next}
+use Rattle.queue.specs.Waiting.{Best, nobody}
+use Rattle.queue.proofs.Taken.{taken-none}
 use Rattle.rules.specs.Ways.{Way}
 use Rattle.rules.specs.Rules.{each, Watch, unwatched, blank, queued, gain, offer, due, inside, watchable, begun, start, solve}
+use Rattle.rules.proofs.Due.{next-none}
 use Rattle.rules.proofs.Ends.{run-stays}
 
 -- +0 and 1/1 are 1
@@ -27,13 +29,7 @@ module _ (way : Way) (settings : Settings) where
   single-start n v h = rw (lt-ltb v n h, getD-replicate n v +0 nan h, whole)
 
   module _ (watch : Watch) (n : ℕ) (sources : List ℕ) where
-    -- where nobody waits it is nobody's turn
-    unqueued : (v : ℕ) (m : ℕ) → bestFrom nobody v (replicate m out) ≡ nobody
-    unfolding bestFrom
-    unqueued v zero = refl
-    unqueued v (suc m) = unqueued (suc v) m
-
     -- a solve that begins nowhere: its list is empty, or all of it is out of range, or the watched node is
     pub solve-nothing : begun n watch sources ≡ [] → solve way settings watch n sources ≡ blank n (settings .«queue_threshold»)
-    unfolding solve start each due next blank
-    solve-nothing e = rw e (run-stays way settings watch _ _ (either (λ (b : Best). b ≡ nobody) _ (unqueued 0 n) refl))
+    unfolding solve start each due blank
+    solve-nothing e = rw e (run-stays way settings watch _ _ (either (λ (b : Best). b ≡ nobody) _ (next-none _ (taken-none n)) refl))

@@ -30,7 +30,7 @@ alike s t e =
     }
 
 module _ (settings : Settings) (watch : Watch) (n : ℕ) (list : List ℕ) where
-  -- ---- for any rows, and so for lent ones: `overRows` is `over` of `rowsIn`
+  -- ---- for any rows, and so for lent ones, which are `rowsIn`
 
   module _ (rows : List (List Entry)) where
     -- a node that the sources do not reach

@@ -1,5 +1,5 @@
--- The push rules, in the words and order of docs/RULES.md, as functions that compute: the state of a solve, what an offer, a push and a turn do to it, the loop,
--- the start, and the whole. `Cases.antt` holds the worked cases against them. Assumes nothing.
+-- The push rules as functions that compute, in the words of docs/RULES.md, each rule after those that it is made of, so that the start and the whole come last.
+-- `Cases.antt` holds the worked cases against them. Assumes nothing.
 use Prim.Native.Nat.{ℕ, zero, suc, _+_, _*_, _%_}
 use mathlib.Core.Bool.{Bool, true, false, not, _&&_}
 use mathlib.Core.List.{List, [], _∷_}

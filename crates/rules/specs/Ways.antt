@@ -7,7 +7,7 @@ use lib.ListN.{getD}
 use lib.Ieee.{Float, lt}
 use Rattle.numbers.specs.Numbers.{one, _⊗_, _⊘_}
 use Rattle.numbers.specs.Choice.{if_then_else_}
-use Rattle.graph.specs.Rows.{Link, Entry, rowsOf, rowsIn, degree, transposed}
+use Rattle.graph.specs.Rows.{Link, Entry, rowsOf, degree, transposed}
 
 -- ---- directions, degrees and shares
 
@@ -54,10 +54,6 @@ over isBackward n rows = wayOf isBackward (rowAt (if isBackward then transposed 
 -- the same of a list of links
 abbrev pub overLinks : Bool → ℕ → List Link → Way
 overLinks isBackward n links = over isBackward n (rowsOf n links)
-
--- and of lent rows
-abbrev pub overRows : Bool → ℕ → List ℕ → List ℕ → List Float → Way
-overRows isBackward n starts columns weights = over isBackward n (rowsIn n starts columns weights)
 
 -- d: the degree of v, which is its out-degree forward and its in-degree backward
 unfoldable pub degreeOf : Way → ℕ → Float
