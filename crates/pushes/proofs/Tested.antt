@@ -6,10 +6,9 @@ use mathlib.Core.Path.{_≡_}
 use lib.Ieee.{Float, lt, le}
 use Rattle.numbers.specs.Numbers.{+0, one, _⊖_, _⊗_}
 use Rattle.numbers.specs.Choice.{if_then_else_}
-use Rattle.refusals.specs.declared.Settings.{Settings}
 use Rattle.graph.specs.Rows.{Entry}
-use Rattle.rules.specs.Ways.{Way, effective, degreeOf}
-use Rattle.rules.specs.Rules.{State, at, each, gain, absorb, counted, offer, pass, handOut, push, skips, visit}
+use Rattle.rules.specs.Ways.{Way, degreeOf}
+use Rattle.rules.specs.Rules.{State, at, each, gain, absorb, offer, pass, handOut, push}
 
 module _ (way : Way) (v : ℕ) (rest degree : Float) (s : State) (d : degree ≡ degreeOf way v) where
   -- the rest goes through the row
@@ -32,14 +31,3 @@ module _ (way : Way) (alpha : Float) (v : ℕ) (s : State) where
   pub push-some : le (at (s .residual) v) +0 ≡ false → handOut way ((one ⊖ alpha) ⊗ at (s .residual) v) v (absorb alpha v s) ≡ push way alpha v s
   unfolding push if_then_else_
   push-some t = rw t
-
-module _ (way : Way) (settings : Settings) (v : ℕ) (degree e : Float) (s : State) (d : degree ≡ degreeOf way v) (f : e ≡ effective degree) where
-  -- v is skipped
-  pub visit-skips : lt (at (s .residual) v) (settings .epsilon ⊗ e) ≡ true → s ≡ visit way settings v s
-  unfolding visit skips if_then_else_
-  visit-skips t = rw (← d, ← f, t)
-
-  -- v is pushed
-  pub visit-counts : lt (at (s .residual) v) (settings .epsilon ⊗ e) ≡ false → counted settings v (push way (settings .alpha) v s) ≡ visit way settings v s
-  unfolding visit skips if_then_else_
-  visit-counts t = rw (← d, ← f, t)

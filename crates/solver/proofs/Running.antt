@@ -14,13 +14,13 @@ use Rattle.refusals.specs.declared.Settings.{Settings}
 use Rattle.queue.specs.Waiting.{taken, nobody, best, next}
 use Rattle.rules.specs.Ways.{Way}
 use Rattle.rules.specs.Rules.{State, Watch, stops, due, turn, run, start, enough, solve}
+use Rattle.rules.proofs.Due.{next-none}
 use Rattle.rules.proofs.Ends.{measure, falls, end, end-stays, end-turn, solve-ends}
 use Rattle.pushes.specs.States.{SameBeyond, stateIn}
 use Rattle.pushes.specs.Buffers.{Ready}
 use Rattle.pushes.specs.Meant.{Stands}
 use Rattle.solver.specs.Promises.{goesOn}
 use Rattle.pushes.specs.declared.Progress.{Progress}
-use Rattle.solver.proofs.Nexts.{next-none}
 
 module _ (settings : Settings) (watch : Watch) (s : State) (size : ℕ) where
   -- the run goes on

@@ -1,11 +1,8 @@
 -- `solver::is_enough` meets its contract: out of range a value reads as a NaN, and nothing is below a NaN. Assumes nothing.
-use Prim.Native.Nat.{ℕ, zero, suc, _≤_}
-use native.Mathlib.Omega.{arith}
 use mathlib.Core.Bool.{false}
-use mathlib.Core.List.{List, [], _∷_}
 use mathlib.Core.Path.{_≡_, refl}
 use denote.Ref.{now}
-use lib.ListN.{length, getD}
+use lib.ListN.{List·getD-eq-default}
 use lib.Ieee.{Float, nan, inf, fin, lt}
 use Rattle.rules.specs.Rules.{stops}
 use Rattle.pushes.specs.States.{stateIn}
@@ -13,11 +10,7 @@ use borrow.Author.Needs.{needs}
 use Rattle.solver.proofs.is_enough.Statement.{statement}
 use Rattle.solver.proofs.is_enough.Tie as tie
 
-beyond : (l : List Float) (v : ℕ) → length l ≤ v → getD l v nan ≡ nan
-beyond [] v h = refl
-beyond (x ∷ l) zero h = absurd (omega arith)
-beyond (x ∷ l) (suc v) h = beyond l v (omega arith)
-
+-- nothing is below a NaN
 below-nan : (x : Float) → lt x nan ≡ false
 unfolding lt
 below-nan nan = refl
@@ -42,7 +35,7 @@ returns c = λ n p ps ns vs. refl
 
 returns-2 : tie.Need-returns-2
 unfolding stops stateIn
-returns-2 c = λ n p ps ns vs. rw (beyond (now (c .before .args .estimate)) (c .before .args .v) (c .if1 .left), below-nan (c .before .args .precision))
+returns-2 c = λ n p ps ns vs. rw (List·getD-eq-default (now (c .before .args .estimate)) nan (c .if1 .left), below-nan (c .before .args .precision))
 
 pub is-enough-spec : {M : Type 1} → statement M
 is-enough-spec =

@@ -3,10 +3,10 @@ use mathlib.Core.Path.{ap, _∙_}
 use denote.Ref.{now}
 use lib.ListN.{length}
 use Rattle.rules.specs.Rules.{visit, turn}
+use Rattle.rules.proofs.Due.{next-inside}
 use Rattle.pushes.specs.States.{stateIn}
 use Rattle.solver.proofs.Moves.{queued-state}
 use Rattle.queue.proofs.Settle.{waiting-length}
-use Rattle.solver.proofs.Nexts.{next-inside}
 use borrow.Author.Needs.{needs}
 use Rattle.solver.proofs.turn.Statement.{statement}
 use Rattle.solver.proofs.turn.Tie as tie
@@ -21,8 +21,7 @@ visit-requires c κs =
     let a = s .args in
     let y = s .pre .0 in
     let o = c .before .before .before .before .before .before .before .before .before .before .before .before .before .pop in
-    let t = stateIn (length (now (a .degrees))) (now (a .estimate)) (now (a .residual)) (a .p) (now (a .priorities)) (now (a .nodes)) (now (a .visited)) in
-    let h = next-inside (a .settings) t (o .result .node) (o .ensures .1 .priority) (s .pre .2) (o .ensures .1 .was-next) in
+    let h = next-inside _ (o .result .node) (o .ensures .1 .priority) (o .ensures .1 .was-next) in
     let l = o .ensures .1 .left in (
       record {
         rows = y .rows;

@@ -7,7 +7,7 @@ use Rattle.rules.specs.Rules.{counted}
 use Rattle.pushes.specs.States.{stateIn}
 use Rattle.solver.proofs.Moves.{marks-beyond, counted-state}
 use Rattle.pushes.proofs.Standing.{weighs}
-use Rattle.pushes.proofs.Tested.{visit-skips, visit-counts}
+use Rattle.solver.proofs.Visits.{visit-skips, visit-counts}
 use borrow.Author.Needs.{needs}
 use Rattle.solver.proofs.visit.Statement.{statement}
 use Rattle.solver.proofs.visit.Tie as tie
