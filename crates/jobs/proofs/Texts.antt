@@ -23,24 +23,24 @@ use Rattle.forward_push.specs.Outcomes.{solveMultiSource}
 use Rattle.job_fields.specs.Fields.{wordsAt, floatsAt}
 use Rattle.job_fields.specs.Shape.{nodesIn, linksIn, sourcesIn, shaped}
 use Rattle.job_text.specs.Text.{refusedLine, doneLine, nodeLines, Grown}
-use Rattle.jobs.specs.Jobs.{settingsIn, job, jobIn, refusal, end, told}
+use Rattle.jobs.specs.Jobs.{settingsIn, job, jobIn, refusal, end, refusedOr}
 use Rattle.jobs.specs.Promises.{ListsLong, RowsLong, SolveLong, Writes, writes}
 
 -- the text of an answer and two vectors
 abbrev pub answered : Solved → List Float → List Float → List ℕ
-answered r estimate residual = told (r .refusal) (doneLine (r .«push_count») (r .«nodes_visited») (r .«residual_norm») ++ nodeLines 0 estimate residual)
+answered r estimate residual = refusedOr (r .refusal) (doneLine (r .«push_count») (r .«nodes_visited») (r .«residual_norm») ++ nodeLines 0 estimate residual)
 
 -- a refusal
-pub told-refused : (number : ℕ) (done : List ℕ) {text text′ : List ℕ} {r : ℕ} → (number ≡ 0 → ⊥) → Grown 0 (refusedLine number) text r text′ → Grown 0 (told number done) text r text′
-unfolding told
-told-refused zero done h g = absurd (h refl)
-told-refused (suc k) done h g = g
+pub text-refused : (number : ℕ) (done : List ℕ) {text text′ : List ℕ} {r : ℕ} → (number ≡ 0 → ⊥) → Grown 0 (refusedLine number) text r text′ → Grown 0 (refusedOr number done) text r text′
+unfolding refusedOr
+text-refused zero done h g = absurd (h refl)
+text-refused (suc k) done h g = g
 
 -- none
-pub told-done : (number : ℕ) (done : List ℕ) {text text′ : List ℕ} {r : ℕ} → number ≡ 0 → Grown 0 done text r text′ → Grown 0 (told number done) text r text′
-unfolding told
-told-done zero done h g = g
-told-done (suc k) done h g = absurd (omega arith)
+pub text-done : (number : ℕ) (done : List ℕ) {text text′ : List ℕ} {r : ℕ} → number ≡ 0 → Grown 0 done text r text′ → Grown 0 (refusedOr number done) text r text′
+unfolding refusedOr
+text-done zero done h g = g
+text-done (suc k) done h g = absurd (omega arith)
 
 -- lengths that are as stated fail no test
 alike-lengths : (ps : List (ℕ × ℕ)) → Alike ps → unlike false ps ≡ false
@@ -51,8 +51,8 @@ alike-lengths (p ∷ ps) h = rw (eq-eqb (p .0) (p .1) (h .0)) (alike-lengths ps 
 -- the answer's text, by the solve's first number and the state that it ends in
 solved-answered : {B : Type 0} (number : ℕ) (g : Given State B) (s : State) (norm : Float) (estimateOf residualOf : B → List Float)
     → estimateOf (g .after s) ≡ s .estimate → residualOf (g .after s) ≡ s .residual → {r : Solved} {b : B} → left r b ≡ solvedWith number g s norm
-    → answered r (estimateOf b) (residualOf b) ≡ told number (doneLine (s .pushes) (visitedCount s) norm ++ nodeLines 0 (s .estimate) (s .residual))
-unfolding solvedWith call told
+    → answered r (estimateOf b) (residualOf b) ≡ refusedOr number (doneLine (s .pushes) (visitedCount s) norm ++ nodeLines 0 (s .estimate) (s .residual))
+unfolding solvedWith call refusedOr
 solved-answered {B} zero g s norm estimateOf residualOf he hr e =
     ap (λ (x : Left Solved B). answered (x .answer) (estimateOf (x .lent)) (residualOf (x .lent))) e
     ∙ ap (λ (v : List Float). doneLine (s .pushes) (visitedCount s) norm ++ nodeLines 0 v (residualOf (g .after s))) he
@@ -91,7 +91,7 @@ module _ (n : ℕ) (from to : List ℕ) (weight : List Float) (sources : List �
                   (links-after solving (λ (x : SolveLent). x .estimate) (end j) (end j .estimate) (λ n m. done-estimate n (end j .estimate) (end j .residual)) n from to weight b)
                   (links-after solving (λ (x : SolveLent). x .residual) (end j) (end j .residual) (λ n m. done-residual n (end j .estimate) (end j .residual)) n from to weight b)
                   (solves .leaves)
-                  ∙ ap (λ (x : ℕ). told x (doneLine (end j .pushes) (visitedCount (end j)) (solves .norm) ++ nodeLines 0 (end j .estimate) (end j .residual))) (number-is b l r v);
+                  ∙ ap (λ (x : ℕ). refusedOr x (doneLine (end j .pushes) (visitedCount (end j)) (solves .norm) ++ nodeLines 0 (end j .estimate) (end j .residual))) (number-is b l r v);
             };
         grown = grown;
       }
@@ -109,7 +109,7 @@ job-read bytes hn hf ht hw hs h l₁ l₂ l₃ l₄ lk = rw (hn, hf, ht, hw, hs,
 module _ (bytes : List ℕ) {text text′ : List ℕ} {r : ℕ} where
   -- bytes of another shape
   pub misshapen-writes : shaped bytes ≡ false → Grown 0 (refusedLine 8) text r text′ → Writes (8 when not (shaped bytes) or refusal (jobIn bytes)) (jobIn bytes) text r text′
-  unfolding _when_ _or_ told
+  unfolding _when_ _or_ refusedOr
   misshapen-writes h g = rw h (record { part = refusedLine 8; printed = record { norm = +0; is-norm = λ e. absurd (omega arith); is-text = refl }; grown = g })
 
   -- and of a job's

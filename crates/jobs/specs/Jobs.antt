@@ -60,15 +60,15 @@ unfoldable pub end : Job → State
 end j = solve (over forward (j .nodes) (rowsOf (j .nodes) (linksOf (j .from) (j .to) (j .weight)))) (j .given) unwatched (j .nodes) (j .sources)
 
 -- a text by its refusal number: that of a solve that is done, or the refusal's
-unfoldable pub told : ℕ → List ℕ → List ℕ
-told zero done = done
-told (suc k) done = refusedLine (suc k)
+unfoldable pub refusedOr : ℕ → List ℕ → List ℕ
+refusedOr zero done = done
+refusedOr (suc k) done = refusedLine (suc k)
 
 -- the text of a job with this first number
 pub record Prints (number : ℕ) (j : Job) (text : List ℕ) : Type 0 where
   pub norm : Float
   pub is-norm : number ≡ 0 → Norm (end j .residual) norm
-  pub is-text : text ≡ told number (doneLine (end j .pushes) (visitedCount (end j)) norm ++ nodeLines 0 (end j .estimate) (end j .residual))
+  pub is-text : text ≡ refusedOr number (doneLine (end j .pushes) (visitedCount (end j)) norm ++ nodeLines 0 (end j .estimate) (end j .residual))
 
 -- the text for bytes: a wrong shape is 8, before the rest
 abbrev pub prints : List ℕ → List ℕ → Type 0

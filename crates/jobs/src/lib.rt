@@ -9,7 +9,7 @@ ghost use Rattle.refusals.specs.Refusals.{_or_, _when_};
 ghost use Rattle.io.specs.Counts.{Counts};
 ghost use Rattle.job_fields.specs.Shape.{linksIn, sourcesIn, shaped};
 ghost use Rattle.job_text.specs.Text.{doneLine, nodeLines, Grown};
-ghost use Rattle.jobs.specs.Jobs.{settingsIn, job, jobIn, refusal, told};
+ghost use Rattle.jobs.specs.Jobs.{settingsIn, job, jobIn, refusal, refusedOr};
 ghost use Rattle.jobs.specs.Promises.{Roomy, ListsLong, RowsLong, SolveLong, Writes, writes};
 use calls::Solved;
 use refusals::Settings;
@@ -34,7 +34,7 @@ fn settings_in(bytes: &[u8]) -> Settings
 // Writes what a solve answered and left in its two vectors.
 fn tell(solved: Solved, estimate: &[f64], residual: &[f64], text: &mut [u8]) -> usize
     requires { ⌜ (length (now estimate) ≤ 256) × (length (now residual) ≡ length (now estimate)) × Roomy (now text) ⌝ }
-    ensures { λ r. ⌜ Grown 0 (told (solved .refusal)
+    ensures { λ r. ⌜ Grown 0 (refusedOr (solved .refusal)
         (doneLine (solved .«push_count») (solved .«nodes_visited») (solved .«residual_norm») ++ nodeLines 0 (now (estimate .entry)) (now (residual .entry))))
         (now (text .entry)) r (now (text .exit)) ⌝ }
 {

@@ -1,7 +1,7 @@
 -- `jobs::tell` meets its contract: the refusal, or the first line and the lines of all nodes. Assumes nothing.
 use native.Mathlib.Omega.{arith}
 use Rattle.job_text.proofs.Growing.{grown-then}
-use Rattle.jobs.proofs.Texts.{told-refused, told-done}
+use Rattle.jobs.proofs.Texts.{text-refused, text-done}
 use borrow.Author.Needs.{needs}
 use Rattle.jobs.proofs.tell.Statement.{statement}
 use Rattle.jobs.proofs.tell.Tie as tie
@@ -13,7 +13,7 @@ same-length : tie.Need-same-length
 same-length c = search needs
 
 returns : tie.Need-returns
-returns c = told-refused _ _ (c .before .before .before .before .if1 .taken) (c .before .before .append-refused .ensures)
+returns c = text-refused _ _ (c .before .before .before .before .if1 .taken) (c .before .before .append-refused .ensures)
 
 append-done-requires : tie.Need-append-done-requires
 append-done-requires c κs = (omega (arith, c .before .before .before .before .before .before .pre .2 .enough), c .before .before .before .before .before .before .pre .2 .few)
@@ -28,7 +28,7 @@ same-length-2 : tie.Need-same-length-2
 same-length-2 c = search needs
 
 returns-2 : tie.Need-returns-2
-returns-2 c = told-done _ _ (c .before .before .before .before .before .before .before .before .if1 .left) (grown-then (c .before .before .before .before .before .before .append-done .ensures .0) (c .before .before .append-nodes .ensures))
+returns-2 c = text-done _ _ (c .before .before .before .before .before .before .before .before .if1 .left) (grown-then (c .before .before .before .before .before .before .append-done .ensures .0) (c .before .before .append-nodes .ensures))
 
 pub tell-spec : {M : Type 1} → statement M
 tell-spec =
