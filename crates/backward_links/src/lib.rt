@@ -12,7 +12,7 @@ ghost use Rattle.solver.specs.Watching.{watchIn};
 ghost use Rattle.calls.specs.Lent.{words, besides, solveLent, linksLent};
 ghost use Rattle.calls.specs.Outcomes.{givenLinks};
 ghost use Rattle.calls.specs.Promises.{Fits, Settles, Checks};
-ghost use Rattle.backward_push.specs.Lent.{backLent, turning};
+ghost use Rattle.backward_push.specs.Lent.{backLent, reversing};
 use backward_push::rows::solve_rows;
 use calls::Counted;
 use refusals::Settings;
@@ -49,7 +49,7 @@ pub fn refuse_links(
         (now (weight .entry))) ⌝ }
 {
     let lists = calls::unlike_links(n, m, to, weight.len(), starts, columns, weights);
-    let turned = calls::unlike_turned(
+    let unlike = calls::unlike_reverse(
         lists | other,
         n,
         m,
@@ -59,7 +59,7 @@ pub fn refuse_links(
         out_degrees,
     );
     let unlike = calls::unlike_solve(
-        turned,
+        unlike,
         n,
         estimate,
         residual,
@@ -100,7 +100,7 @@ fn solve_links(
         × (length (now «reverse_starts») ≡ n + 1) × (length (now «reverse_columns») ≡ length (now from)) × (length (now «reverse_weights») ≡ length (now from))
         × (length (now «out_degrees») ≡ n)
         × Fits n (now targets) (solveLent (now estimate) (now residual) (now «in_degrees») (now priorities) (now nodes) (now queued) (now visited)) ⌝ }
-    ensures { λ r. ⌜ Settles backward (givenLinks turning n (now (from .entry)) (now (to .entry)) (now (weight .entry))
+    ensures { λ r. ⌜ Settles backward (givenLinks reversing n (now (from .entry)) (now (to .entry)) (now (weight .entry))
         (linksLent (now (starts .entry)) (now (columns .entry)) (now (weights .entry)) (backLent (now («reverse_starts» .entry)) (now («reverse_columns» .entry)) (now («reverse_weights» .entry)) (now («out_degrees» .entry))
         (solveLent (now (estimate .entry)) (now (residual .entry)) (now («in_degrees» .entry)) (now (priorities .entry)) (now (nodes .entry)) (now (queued .entry)) (now (visited .entry))))))
         settings (watchIn watch) (now (targets .entry))
@@ -135,8 +135,8 @@ fn solve_links(
 }
 
 // A backward call with a list of links: refused with the first number that applies, or solved. `other` says whether
-// another buffer of the call has another length than stated, `listed` is how many targets the call lists, and `further`
-// the number of the tests after those of the settings.
+// another buffer of the call has another length than stated, `listed` is how many targets the call lists, 0 where it
+// names one, and `further` the number of the tests after those of the settings.
 pub fn checked_links(
     n: u32,
     from: &[u32],
@@ -164,7 +164,7 @@ pub fn checked_links(
     visited: &mut [u64],
 ) -> Counted
     requires { ⌜ (listed ≤ 65536 → length (now targets) ≤ 65536) ⌝ }
-    ensures { λ r. ⌜ ((more : List (ℕ × ℕ)) → other ≡ unlike false more → Checks backward (givenLinks (besides more turning) n (now (from .entry)) (now (to .entry)) (now (weight .entry))
+    ensures { λ r. ⌜ ((more : List (ℕ × ℕ)) → other ≡ unlike false more → Checks backward (givenLinks (besides more reversing) n (now (from .entry)) (now (to .entry)) (now (weight .entry))
         (linksLent (now (starts .entry)) (now (columns .entry)) (now (weights .entry)) (backLent (now («reverse_starts» .entry)) (now («reverse_columns» .entry)) (now («reverse_weights» .entry)) (now («out_degrees» .entry))
         (solveLent (now (estimate .entry)) (now (residual .entry)) (now («in_degrees» .entry)) (now (priorities .entry)) (now (nodes .entry)) (now (queued .entry)) (now (visited .entry))))))
         settings (watchIn watch) (now (targets .entry)) listed further
@@ -198,8 +198,8 @@ pub fn checked_links(
     if refusal != 0 {
         return Counted {
             refusal,
-            pushes: 0,
-            visited: 0,
+            push_count: 0,
+            nodes_visited: 0,
         };
     }
     solve_links(

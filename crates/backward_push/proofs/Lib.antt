@@ -1,4 +1,4 @@
 -- The laws that the proofs of the backward solver share, and the theorem that each call has one outcome.
-pub mod Turning
+pub mod Reversing
 pub mod Reaching
 pub mod One

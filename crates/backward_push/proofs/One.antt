@@ -12,6 +12,7 @@ use Rattle.calls.specs.declared.Solved.{Solved}
 use Rattle.calls.specs.declared.Scored.{Scored}
 use Rattle.calls.specs.Outcomes.{Given}
 use Rattle.calls.proofs.One.{one-from-one, one-from-many, one-watching, one-query}
+use Rattle.backward_push.specs.Lent.{Reach}
 use Rattle.backward_push.specs.Outcomes.{solveSingleTarget, solveMultiTarget, solveWithSource, queryTransitionProbability, reachabilityProbabilities}
 
 -- whether it is given a list of links or rows
@@ -33,6 +34,7 @@ module _ {B : Type 0} (g : Given State B) where
       → y ≡ queryTransitionProbability g source target s → x ≡ y
   one-transition-probability source target = one-query backward g target source
 
+module _ {B : Type 0} (g : Given Reach B) where
   -- reachability_probabilities
   pub one-reachability : (target : ℕ) (s : Settings) (x y : Left ℕ B) → x ≡ reachabilityProbabilities g target s → y ≡ reachabilityProbabilities g target s → x ≡ y
   one-reachability target s x y = agree

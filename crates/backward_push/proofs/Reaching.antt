@@ -14,33 +14,33 @@ use Rattle.rules.specs.Rules.{State, unwatched}
 use Rattle.rules.specs.Answers.{extrapolated}
 use Rattle.calls.specs.declared.Counted.{Counted}
 use Rattle.calls.specs.Lent.{besides, LinksLent, linksLent, linksDone}
-use Rattle.calls.specs.Outcomes.{Given, givenRows, givenLinks, ends, counted}
+use Rattle.calls.specs.Outcomes.{Given, givenRows, givenLinks, ends, unmeasured}
 use Rattle.calls.specs.Promises.{Checks}
 use Rattle.calls.proofs.Left.{no-further}
 use Rattle.calls.proofs.Asked.{rows-asked, links-asked}
 use Rattle.calls.proofs.After.{rows-after, links-after}
-use Rattle.backward_push.specs.Lent.{BackLent, backLengths, turning, ReachLent, reachLent, reaching}
+use Rattle.backward_push.specs.Lent.{BackLent, backLengths, reversing, ReachLent, reachLent, reaching}
 use Rattle.backward_push.specs.Outcomes.{reachabilityProbabilities}
-use Rattle.backward_push.proofs.Turning.{back-estimate, back-residual}
+use Rattle.backward_push.proofs.Reversing.{back-estimate, back-residual}
 
 module _ {B : Type 0} where
   -- a solve that is done was not refused
-  done-number : (number : ℕ) (g : Given State B) (s : State) {c : Counted} {b : B} → left c b ≡ counted number g s → c .refusal ≡ 0 → number ≡ 0
-  unfolding counted call
+  done-number : (number : ℕ) (g : Given State B) (s : State) {c : Counted} {b : B} → left c b ≡ unmeasured number g s → c .refusal ≡ 0 → number ≡ 0
+  unfolding unmeasured call
   done-number zero g s d h = refl
   done-number (suc k) g s d h = absurd (omega (arith, ap (λ (y : Left Counted B). y .answer .refusal) d))
 
   -- and left the buffers as they are after it
-  done-lent : (number : ℕ) (g : Given State B) (s : State) {c : Counted} {b : B} → left c b ≡ counted number g s → c .refusal ≡ 0 → b ≡ g .after s
-  unfolding counted
+  done-lent : (number : ℕ) (g : Given State B) (s : State) {c : Counted} {b : B} → left c b ≡ unmeasured number g s → c .refusal ≡ 0 → b ≡ g .after s
+  unfolding unmeasured
   done-lent number g s d h = ap (λ (y : Left Counted B). y .lent) (left-done _ _ _ number d (done-number number g s d h))
 
 -- the answer stands beside what the solve is lent, as `wrap` has it
 module _ {B C : Type 0} (wrap : List Float → B → C) where
   -- the call is refused: the answer is the old one
-  reach-refused : (number : ℕ) (g : Given State B) (s : State) (old answer : List Float) {c : Counted} {b : B} → left c b ≡ counted number g s → (c .refusal ≡ 0 → ⊥)
+  reach-refused : (number : ℕ) (g : Given State B) (s : State) (old answer : List Float) {c : Counted} {b : B} → left c b ≡ unmeasured number g s → (c .refusal ≡ 0 → ⊥)
       → left (c .refusal) (wrap old b) ≡ call number (λ k. k) (wrap old (g .before)) (left 0 (wrap answer (g .after s)))
-  unfolding counted call
+  unfolding unmeasured call
   reach-refused zero g s old answer d h = absurd (h (ap (λ (y : Left Counted B). y .answer .refusal) d))
   reach-refused (suc k) g s old answer d h = ap (λ (y : Left Counted B). left (y .answer .refusal) (wrap old (y .lent))) d
 
@@ -53,7 +53,7 @@ module _ {B C : Type 0} (wrap : List Float → B → C) where
 
   -- with the answer worked out of the two vectors, which stand where `estimateOf` and `residualOf` say
   reach-done : (number : ℕ) (g : Given State B) (s : State) (alpha : Float) (n : ℕ) (old : List Float) {c : Counted} {b : B} {new : List Float} (estimateOf residualOf : B → List Float)
-      → estimateOf (g .after s) ≡ s .estimate → residualOf (g .after s) ≡ s .residual → left c b ≡ counted number g s → c .refusal ≡ 0 → length (estimateOf b) ≡ n
+      → estimateOf (g .after s) ≡ s .estimate → residualOf (g .after s) ≡ s .residual → left c b ≡ unmeasured number g s → c .refusal ≡ 0 → length (estimateOf b) ≡ n
       → new ≡ extrapolated alpha (length (estimateOf b)) (estimateOf b) (residualOf b)
       → left {A = ℕ} 0 (wrap new b) ≡ call number (λ k. k) (wrap old (g .before)) (left 0 (wrap (extrapolated alpha n (s .estimate) (s .residual)) (g .after s)))
   reach-done number g s alpha n old estimateOf residualOf p q d h l e =
@@ -66,19 +66,19 @@ module _ (s : Settings) (target n : ℕ) (x : List Float) where
   module _ (starts columns : List ℕ) (weights : List Float) (b₀ : BackLent) where
     -- the solve, in which the length of the answer is tested besides
     abbrev given-rows : Given State BackLent
-    given-rows = givenRows (besides ((length x, n) ∷ []) turning) n starts columns weights b₀
+    given-rows = givenRows (besides ((length x, n) ∷ []) reversing) n starts columns weights b₀
 
     -- the call
     abbrev reach-rows : Left ℕ ReachLent
-    reach-rows = reachabilityProbabilities (givenRows (reaching (s .alpha)) n starts columns weights (reachLent x b₀)) target s
+    reach-rows = reachabilityProbabilities (givenRows reaching n starts columns weights (reachLent x b₀)) target s
 
     module _ {c : Counted} {b : BackLent} (h : Checks backward given-rows s unwatched (target ∷ []) 0 0 (left c b)) where
-      rows-counted : left c b ≡ counted (given-rows .tests 0 or settings s) given-rows (ends backward given-rows s unwatched (target ∷ []))
+      rows-counted : left c b ≡ unmeasured (given-rows .tests 0 or settings s) given-rows (ends backward given-rows s unwatched (target ∷ []))
       rows-counted = no-further _ _ _ _ _ _ _ refl h
 
       -- the lengths are as stated where it is done
       pub rows-reach-sized : c .refusal ≡ 0 → Sized n (length columns) 0 ((length x, n) ∷ backLengths n (length columns) b₀)
-      rows-reach-sized z = rows-asked (besides ((length x, n) ∷ []) turning) 0 (settings s) n starts columns weights b₀ refl (done-number _ _ _ rows-counted z) .1
+      rows-reach-sized z = rows-asked (besides ((length x, n) ∷ []) reversing) 0 (settings s) n starts columns weights b₀ refl (done-number _ _ _ rows-counted z) .1
 
       pub rows-reach-refused : (c .refusal ≡ 0 → ⊥) → left (c .refusal) (reachLent x b) ≡ reach-rows
       unfolding reachabilityProbabilities givenRows ends
@@ -90,15 +90,15 @@ module _ (s : Settings) (target n : ℕ) (x : List Float) where
       rows-reach-done z l e =
           let t = ends backward given-rows s unwatched (target ∷ []) in
           reach-done reachLent _ given-rows t (s .alpha) n x (λ b. b .solve .estimate) (λ b. b .solve .residual)
-          (rows-after turning (λ (b : BackLent). b .solve .estimate) t _ (λ n m. back-estimate n m _ _) n starts columns weights b₀)
-          (rows-after turning (λ (b : BackLent). b .solve .residual) t _ (λ n m. back-residual n m _ _) n starts columns weights b₀) rows-counted z l e
+          (rows-after reversing (λ (b : BackLent). b .solve .estimate) t _ (λ n m. back-estimate n m _ _) n starts columns weights b₀)
+          (rows-after reversing (λ (b : BackLent). b .solve .residual) t _ (λ n m. back-residual n m _ _) n starts columns weights b₀) rows-counted z l e
 
   -- ---- with a list of links
 
   module _ (from to : List ℕ) (weight : List Float) (b₀ : LinksLent BackLent) where
     -- the solve, in which the length of the answer is tested besides
     abbrev given-links : Given State (LinksLent BackLent)
-    given-links = givenLinks (besides ((length x, n) ∷ []) turning) n from to weight b₀
+    given-links = givenLinks (besides ((length x, n) ∷ []) reversing) n from to weight b₀
 
     -- the answer stands beside what the backward solve is lent
     abbrev reach-lent : List Float → LinksLent BackLent → LinksLent ReachLent
@@ -106,15 +106,15 @@ module _ (s : Settings) (target n : ℕ) (x : List Float) where
 
     -- the call
     abbrev reach-links : Left ℕ (LinksLent ReachLent)
-    reach-links = reachabilityProbabilities (givenLinks (reaching (s .alpha)) n from to weight (reach-lent x b₀)) target s
+    reach-links = reachabilityProbabilities (givenLinks reaching n from to weight (reach-lent x b₀)) target s
 
     module _ {c : Counted} {b : LinksLent BackLent} (h : Checks backward given-links s unwatched (target ∷ []) 0 0 (left c b)) where
-      links-counted : left c b ≡ counted (given-links .tests 0 or settings s) given-links (ends backward given-links s unwatched (target ∷ []))
+      links-counted : left c b ≡ unmeasured (given-links .tests 0 or settings s) given-links (ends backward given-links s unwatched (target ∷ []))
       links-counted = no-further _ _ _ _ _ _ _ refl h
 
       -- the lengths are as stated where it is done
       pub links-reach-sized : c .refusal ≡ 0 → Sized n (length from) 0 ((length x, n) ∷ backLengths n (length from) (b₀ .rest))
-      links-reach-sized z = links-asked (besides ((length x, n) ∷ []) turning) 0 (settings s) n from to weight b₀ refl (done-number _ _ _ links-counted z) .1
+      links-reach-sized z = links-asked (besides ((length x, n) ∷ []) reversing) 0 (settings s) n from to weight b₀ refl (done-number _ _ _ links-counted z) .1
 
       pub links-reach-refused : (c .refusal ≡ 0 → ⊥) → left (c .refusal) (reach-lent x b) ≡ reach-links
       unfolding reachabilityProbabilities givenLinks ends linksDone
@@ -126,5 +126,5 @@ module _ (s : Settings) (target n : ℕ) (x : List Float) where
       links-reach-done z l e =
           let t = ends backward given-links s unwatched (target ∷ []) in
           reach-done reach-lent _ given-links t (s .alpha) n x (λ b. b .rest .solve .estimate) (λ b. b .rest .solve .residual)
-          (links-after turning (λ (b : BackLent). b .solve .estimate) t _ (λ n m. back-estimate n m _ _) n from to weight b₀)
-          (links-after turning (λ (b : BackLent). b .solve .residual) t _ (λ n m. back-residual n m _ _) n from to weight b₀) links-counted z l e
+          (links-after reversing (λ (b : BackLent). b .solve .estimate) t _ (λ n m. back-estimate n m _ _) n from to weight b₀)
+          (links-after reversing (λ (b : BackLent). b .solve .residual) t _ (λ n m. back-residual n m _ _) n from to weight b₀) links-counted z l e

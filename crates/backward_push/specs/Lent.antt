@@ -5,7 +5,6 @@ use lib.ListN.{length, replicate}
 use lib.Ieee.{Float}
 use Rattle.numbers.specs.Numbers.{+0}
 use Rattle.rules.specs.Rules.{State}
-use Rattle.rules.specs.Answers.{extrapolated}
 use Rattle.calls.specs.Lent.{Lending, SolveLent, solveLengths, solveDone}
 
 -- ---- a backward solve
@@ -36,10 +35,19 @@ unfoldable pub backDone : ℕ → ℕ → SolveLent → BackLent
 backDone n m b = backLent (replicate (n + 1) 0) (replicate m 0) (replicate m +0) (replicate n +0) b
 
 -- the lending of a backward solve
-abbrev pub turning : Lending State BackLent
-turning = record { lengths = backLengths; done = λ n m s. backDone n m (solveDone n (s .estimate) (s .residual)) }
+abbrev pub reversing : Lending State BackLent
+reversing = record { lengths = backLengths; done = λ n m s. backDone n m (solveDone n (s .estimate) (s .residual)) }
 
 -- ---- reachability_probabilities
+
+-- what its solve ends in, and the answer out of that
+pub record Reach : Type 0 where
+  pub solution : List Float
+  pub state : State
+
+-- the same, by its parts
+abbrev pub reach : List Float → State → Reach
+reach x s = record { solution = x; state = s }
 
 -- an answer besides
 pub record ReachLent : Type 0 where
@@ -50,10 +58,10 @@ pub record ReachLent : Type 0 where
 abbrev pub reachLent : List Float → BackLent → ReachLent
 reachLent x b = record { solution = x; back = b }
 
--- its lending: the answer is what the solve lets expect
-abbrev pub reaching : Float → Lending State ReachLent
-reaching alpha =
+-- its lending
+abbrev pub reaching : Lending Reach ReachLent
+reaching =
     record {
       lengths = λ n m b. (length (b .solution), n) ∷ backLengths n m (b .back);
-      done = λ n m s. reachLent (extrapolated alpha n (s .estimate) (s .residual)) (turning .done n m s);
+      done = λ n m r. reachLent (r .solution) (reversing .done n m (r .state));
     }

@@ -8,9 +8,11 @@ use Rattle.refusals.specs.Calls.{Left, left, call}
 use Rattle.refusals.specs.declared.Settings.{Settings}
 use Rattle.rules.specs.Ways.{backward}
 use Rattle.rules.specs.Rules.{State, unwatched}
+use Rattle.rules.specs.Answers.{extrapolated}
 use Rattle.calls.specs.declared.Solved.{Solved}
 use Rattle.calls.specs.declared.Scored.{Scored}
 use Rattle.calls.specs.Outcomes.{Given, ends, solvesOne, solvesMany, solvesWatching, queriesOne}
+use Rattle.backward_push.specs.Lent.{Reach, reach}
 
 module _ {B : Type 0} (g : Given State B) where
   -- solve_single_target
@@ -29,7 +31,9 @@ module _ {B : Type 0} (g : Given State B) where
   abbrev pub queryTransitionProbability : ℕ → ℕ → Settings → Left Scored B
   queryTransitionProbability source target s = queriesOne backward g target source s
 
-  -- reachability_probabilities: its number, and what `reaching` lends it for its answer
+module _ {B : Type 0} (g : Given Reach B) where
+  -- reachability_probabilities: the extrapolated solution of the single-target solve
   unfoldable pub reachabilityProbabilities : ℕ → Settings → Left ℕ B
   reachabilityProbabilities target s =
-      call (g .tests 0 or settings s) (λ k. k) (g .before) (left 0 (g .after (ends backward g s unwatched (target ∷ []))))
+      let e = ends backward g s unwatched (target ∷ []) in
+      call (g .tests 0 or settings s) (λ k. k) (g .before) (left 0 (g .after (reach (extrapolated (s .alpha) (g .nodes) (e .estimate) (e .residual)) e)))

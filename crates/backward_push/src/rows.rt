@@ -12,8 +12,8 @@ ghost use Rattle.solver.specs.Watching.{watchIn};
 ghost use Rattle.calls.specs.Lent.{words, besides, solveLent};
 ghost use Rattle.calls.specs.Outcomes.{givenRows};
 ghost use Rattle.calls.specs.Promises.{Fits, Settles, Checks};
-ghost use Rattle.backward_push.specs.Lent.{backLent, turning};
-use crate::turned;
+ghost use Rattle.backward_push.specs.Lent.{backLent, reversing};
+use crate::reversed;
 use calls::Counted;
 use refusals::Settings;
 use solver::Watch;
@@ -46,7 +46,7 @@ pub fn refuse_rows(
         (now (starts .entry)) (now (columns .entry)) (now (weights .entry))) ⌝ }
 {
     let lists = calls::unlike_rows(n, columns.len(), starts.len(), weights.len());
-    let turned = calls::unlike_turned(
+    let unlike = calls::unlike_reverse(
         lists | other,
         n,
         columns.len(),
@@ -56,7 +56,7 @@ pub fn refuse_rows(
         out_degrees,
     );
     let unlike = calls::unlike_solve(
-        turned,
+        unlike,
         n,
         estimate,
         residual,
@@ -69,7 +69,7 @@ pub fn refuse_rows(
     refusals::refuse_rows(n, listed, unlike, starts, columns, weights)
 }
 
-// A backward solve of rows. The queue's nodes serve as positions while the rows are turned.
+// A backward solve of rows. The queue's nodes serve as positions while the rows are reversed.
 pub fn solve_rows<'a>(
     n: u32,
     starts: &[u32],
@@ -93,14 +93,14 @@ pub fn solve_rows<'a>(
     requires { ⌜ RowBuffers n (now starts) (now columns) (now weights) (now «reverse_starts») (now «reverse_columns») (now «reverse_weights») (now nodes)
         × (length (now «out_degrees») ≡ n)
         × Fits n (now targets) (solveLent (now estimate) (now residual) (now «in_degrees») (now priorities) (now nodes) (now queued) (now visited)) ⌝ }
-    ensures { λ r. ⌜ Settles backward (givenRows turning n (now (starts .entry)) (now (columns .entry)) (now (weights .entry))
+    ensures { λ r. ⌜ Settles backward (givenRows reversing n (now (starts .entry)) (now (columns .entry)) (now (weights .entry))
         (backLent (now («reverse_starts» .entry)) (now («reverse_columns» .entry)) (now («reverse_weights» .entry)) (now («out_degrees» .entry))
         (solveLent (now (estimate .entry)) (now (residual .entry)) (now («in_degrees» .entry)) (now (priorities .entry)) (now (nodes .entry)) (now (queued .entry)) (now (visited .entry)))))
         settings (watchIn watch) (now (targets .entry))
         (left r (backLent (now («reverse_starts» .exit)) (now («reverse_columns» .exit)) (now («reverse_weights» .exit)) (now («out_degrees» .exit))
         (solveLent (now (estimate .exit)) (now (residual .exit)) (now («in_degrees» .exit)) (now (priorities .exit)) (now (nodes .exit)) (now (queued .exit)) (now (visited .exit))))) ⌝ }
 {
-    turned::turn(
+    reversed::reverse(
         n,
         starts,
         columns,
@@ -131,7 +131,7 @@ pub fn solve_rows<'a>(
         queued,
         visited,
     );
-    turned::clear(
+    reversed::clear(
         reverse_starts,
         reverse_columns,
         reverse_weights,
@@ -142,8 +142,8 @@ pub fn solve_rows<'a>(
 }
 
 // A backward call with rows: refused with the first number that applies, or solved. `other` says whether another buffer of
-// the call has another length than stated, `listed` is how many targets the call lists, and `further` the number of the
-// tests after those of the settings.
+// the call has another length than stated, `listed` is how many targets the call lists, 0 where it names one, and
+// `further` the number of the tests after those of the settings.
 pub fn checked_rows<'a>(
     n: u32,
     starts: &[u32],
@@ -168,7 +168,7 @@ pub fn checked_rows<'a>(
     visited: &mut [u64],
 ) -> Counted
     requires { ⌜ (listed ≤ 65536 → length (now targets) ≤ 65536) ⌝ }
-    ensures { λ r. ⌜ ((more : List (ℕ × ℕ)) → other ≡ unlike false more → Checks backward (givenRows (besides more turning) n (now (starts .entry)) (now (columns .entry)) (now (weights .entry))
+    ensures { λ r. ⌜ ((more : List (ℕ × ℕ)) → other ≡ unlike false more → Checks backward (givenRows (besides more reversing) n (now (starts .entry)) (now (columns .entry)) (now (weights .entry))
         (backLent (now («reverse_starts» .entry)) (now («reverse_columns» .entry)) (now («reverse_weights» .entry)) (now («out_degrees» .entry))
         (solveLent (now (estimate .entry)) (now (residual .entry)) (now («in_degrees» .entry)) (now (priorities .entry)) (now (nodes .entry)) (now (queued .entry)) (now (visited .entry)))))
         settings (watchIn watch) (now (targets .entry)) listed further
@@ -199,8 +199,8 @@ pub fn checked_rows<'a>(
     if refusal != 0 {
         return Counted {
             refusal,
-            pushes: 0,
-            visited: 0,
+            push_count: 0,
+            nodes_visited: 0,
         };
     }
     solve_rows(

@@ -11,7 +11,7 @@ ghost use Rattle.calls.specs.Outcomes.{givenLinks};
 ghost use Rattle.calls.specs.Promises.{Fits};
 ghost use Rattle.backward_push.specs.Lent.{backLent};
 ghost use Rattle.bidirectional_push.specs.Lent.{bothLent, joining};
-ghost use Rattle.bidirectional_push.specs.Promises.{Joins, Answers};
+ghost use Rattle.bidirectional_push.specs.Promises.{Joins, ChecksBoth};
 use bidirectional_push::rows::solve_rows;
 use calls::Scored;
 use refusals::Settings;
@@ -115,7 +115,7 @@ pub fn checked_links(
     queued: &mut [u64],
     visited: &mut [u64],
 ) -> Scored
-    ensures { λ r. ⌜ Answers adaptive (givenLinks joining n (now (from .entry)) (now (to .entry)) (now (weight .entry))
+    ensures { λ r. ⌜ ChecksBoth adaptive (givenLinks joining n (now (from .entry)) (now (to .entry)) (now (weight .entry))
         (linksLent (now (starts .entry)) (now (columns .entry)) (now (weights .entry)) (bothLent (now («forward_estimate» .entry)) (now («forward_residual» .entry)) (backLent (now («reverse_starts» .entry)) (now («reverse_columns» .entry)) (now («reverse_weights» .entry)) (now («out_degrees» .entry))
         (solveLent (now («backward_estimate» .entry)) (now («backward_residual» .entry)) (now («in_degrees» .entry)) (now (priorities .entry)) (now (nodes .entry)) (now (queued .entry)) (now (visited .entry)))))))
         source target «forward_settings» «backward_settings»

@@ -1,11 +1,12 @@
 -- Two solves one after the other: which are used, what each leaves, and what the call answers of it. Assumes nothing.
-use Prim.Native.Nat.{ℕ, _+_, _<_}
+use Prim.Native.Nat.{ℕ, _+_, _<_, _≤_}
 use mathlib.Core.Bool.{Bool, true, false, _&&_}
 use mathlib.Core.List.{List, [], _∷_}
 use mathlib.Core.Path.{_≡_, refl, ap, _∙_}
-use lib.ListN.{length, getD, replicate}
+use native.Mathlib.Omega.{arith}
+use lib.ListN.{length, replicate}
 use lib.Dec.{ltb}
-use lib.Ieee.{Float, nan}
+use lib.Ieee.{Float}
 use borrow.Author.Tests.{ltb-true}
 use Rattle.numbers.specs.Numbers.{+0}
 use Rattle.numbers.specs.Choice.{if_then_else_}
@@ -24,18 +25,17 @@ use Rattle.rules.proofs.Starts.{solve-nothing}
 use Rattle.pushes.specs.Meant.{Stands}
 use Rattle.solver.proofs.Graphs.{stands-over}
 use Rattle.calls.specs.declared.Counted.{Counted}
-use Rattle.calls.specs.Lent.{score, words, solveLent, solveDone, LinksLent, linksLent}
+use Rattle.calls.specs.Lent.{scoredOf, words, solveLent, solveDone, LinksLent, linksLent}
 use Rattle.calls.specs.Outcomes.{Given, givenRows, givenLinks, ends}
-use Rattle.calls.specs.Promises.{Settled}
-use Rattle.calls.proofs.Degrees.{degree-at}
-use Rattle.calls.proofs.Directed.{Directed, degrees-long}
+use Rattle.calls.specs.Promises.{SolveSettled}
+use Rattle.calls.proofs.Directed.{Directed, degrees-long, sums-are}
 use Rattle.calls.proofs.Links.{made-left}
 use Rattle.backward_push.specs.Lent.{backLent, backDone}
-use Rattle.backward_push.specs.Promises.{Turned}
+use Rattle.backward_push.specs.Promises.{Reversed}
 use Rattle.bidirectional_push.specs.declared.Uses.{Uses}
 use Rattle.bidirectional_push.specs.Lent.{Pairs, BothLent, bothLent, joining}
-use Rattle.bidirectional_push.specs.Outcomes.{usesForward, usesBackward, filled, pairsBy, joined, bySolves}
-use Rattle.bidirectional_push.specs.Promises.{methodFor, methodBy, Joins, Answers, Follows, scoreBy}
+use Rattle.bidirectional_push.specs.Outcomes.{usesForward, usesBackward, whereUsed, pairsBy, joined, bySolves}
+use Rattle.bidirectional_push.specs.Promises.{methodFor, methodBy, Joins, ChecksBoth, Follows, scoreBy}
 
 -- ---- one solve
 
@@ -45,20 +45,26 @@ module _ (way : Way) (s : Settings) (n v : ℕ) where
   unfolding begun watchable inside if_then_else_
   nowhere = solve-nothing way s unwatched n [] refl
 
-  started-estimate : (used : Bool) → solve way s unwatched n (if used then v ∷ [] else []) .estimate ≡ filled used n (solve way s unwatched n (v ∷ []) .estimate)
+  started-estimate : (used : Bool) → solve way s unwatched n (if used then v ∷ [] else []) .estimate ≡ whereUsed used n (solve way s unwatched n (v ∷ []) .estimate)
   unfolding if_then_else_ blank
   started-estimate true = refl
   started-estimate false = ap (λ (z : State). z .estimate) nowhere
 
-  started-residual : (used : Bool) → solve way s unwatched n (if used then v ∷ [] else []) .residual ≡ filled used n (solve way s unwatched n (v ∷ []) .residual)
+  started-residual : (used : Bool) → solve way s unwatched n (if used then v ∷ [] else []) .residual ≡ whereUsed used n (solve way s unwatched n (v ∷ []) .residual)
   unfolding if_then_else_ blank
   started-residual true = refl
   started-residual false = ap (λ (z : State). z .residual) nowhere
 
+-- the list that it starts from is short
+pub few-listed : (used : Bool) (v : ℕ) → length (if used then v ∷ [] else []) ≤ 65536
+unfolding if_then_else_
+few-listed true v = omega arith
+few-listed false v = omega arith
+
 -- what it leaves
 pub record Leaves (n : ℕ) (used : Bool) (z : State) (estimate residual priorities : List Float) (nodes queued visited : List ℕ) : Type 0 where
-  pub estimate-is : estimate ≡ filled used n (z .estimate)
-  pub residual-is : residual ≡ filled used n (z .residual)
+  pub estimate-is : estimate ≡ whereUsed used n (z .estimate)
+  pub residual-is : residual ≡ whereUsed used n (z .residual)
   pub priorities-zero : priorities ≡ replicate n +0
   pub nodes-zero : nodes ≡ replicate n 0
   pub queued-zero : queued ≡ replicate (words n) 0
@@ -67,7 +73,7 @@ pub record Leaves (n : ℕ) (used : Bool) (z : State) (estimate residual priorit
 module _ {n : ℕ} {isBackward : Bool} {rows : List (List Entry)} {starts columns columns′ : List ℕ} {weights weights′ degrees outs : List Float}
     (z : Directed n isBackward rows starts columns columns′ weights weights′ degrees outs) (s : Settings) (v : ℕ) (used : Bool) where
   pub solve-leaves : {sources : List ℕ} {r : Counted} {estimate residual priorities : List Float} {nodes queued visited : List ℕ} → sources ≡ (if used then v ∷ [] else [])
-      → Settled (Stands (length degrees) isBackward starts columns columns′ weights weights′ outs) (λ way. solve way s unwatched (length degrees) sources) (length degrees)
+      → SolveSettled (Stands (length degrees) isBackward starts columns columns′ weights weights′ outs) (λ way. solve way s unwatched (length degrees) sources) (length degrees)
       r estimate residual priorities nodes queued visited
       → Leaves n used (solve (over isBackward n rows) s unwatched n (v ∷ [])) estimate residual priorities nodes queued visited
   solve-leaves e d =
@@ -86,14 +92,10 @@ module _ {n : ℕ} {isBackward : Bool} {rows : List (List Entry)} {starts column
 -- ---- which solves are used
 
 module _ {n : ℕ} {starts columns reverse-starts reverse-columns : List ℕ} {weights reverse-weights ins outs : List Float} (rowed : Rowed n starts columns weights)
-    (t : Turned n starts columns weights reverse-starts reverse-columns reverse-weights ins outs) where
-  -- the degrees are those of the rows
-  outward-is : (v : ℕ) → v < n → at outs v ≡ degree (rowAt (rowsIn n starts columns weights) v)
-  outward-is v l = ap (λ (ds : List Float). getD ds v nan) (t .outs) ∙ degree-at rowed v l
-
+    (t : Reversed n starts columns weights reverse-starts reverse-columns reverse-weights ins outs) where
+  -- the in-degrees are the sums of the rows reversed
   inward-is : (v : ℕ) → v < n → at ins v ≡ degree (rowAt (transposed n (rowsIn n starts columns weights)) v)
-  inward-is v l =
-      ap (λ (ds : List Float). getD ds v nan) (t .ins) ∙ degree-at (held-rowed (t .reversed)) v l ∙ ap (λ (rs : List (List Entry)). degree (rowAt rs v)) (held-rows (t .reversed))
+  inward-is v l = sums-are (held-rowed (t .reversed)) (t .ins) v l ∙ ap (λ (rs : List (List Entry)). degree (rowAt rs v)) (held-rows (t .reversed))
 
   -- so the method by degrees is the rules'
   pub method-is : (adaptive : Bool) (source target : ℕ) → methodBy adaptive n ins outs source target ≡ methodFor adaptive n (rowsIn n starts columns weights) source target
@@ -104,14 +106,14 @@ module _ {n : ℕ} {starts columns reverse-starts reverse-columns : List ℕ} {w
       go : (b : Bool) → (ltb source n && ltb target n) ≡ b → methodBy true n ins outs source target ≡ method n (rowsIn n starts columns weights) source target
       go true e =
           let l = all (ltb source n) (ltb target n) e in
-          rw (e, outward-is source (ltb-true source n (l .0)), inward-is target (ltb-true target n (l .1)))
+          rw (e, sums-are rowed (t .outs) source (ltb-true source n (l .0)), inward-is target (ltb-true target n (l .1)))
       go false e = rw e
 
 -- ---- the score
 
 -- by the method that is followed
 pub score-is : (m : Method) (u : Uses) (alpha : Float) (n source target : ℕ) (b f : State) {be br fe fr : List Float} → Follows u m
-    → be ≡ filled (usesBackward m) n (b .estimate) → br ≡ filled (usesBackward m) n (b .residual) → fe ≡ filled (usesForward m) n (f .estimate) → fr ≡ filled (usesForward m) n (f .residual)
+    → be ≡ whereUsed (usesBackward m) n (b .estimate) → br ≡ whereUsed (usesBackward m) n (b .residual) → fe ≡ whereUsed (usesForward m) n (f .estimate) → fr ≡ whereUsed (usesForward m) n (f .residual)
     → length be ≡ n → scoreBy u alpha source target be br fe fr ≡ answerBy m alpha n source target b f
 unfolding scoreBy answerBy usesForward usesBackward scoreAt if_then_else_
 score-is neither u alpha n source target b f w p q r s l = rw (w .forward-is, w .backward-is)
@@ -135,10 +137,10 @@ joined-left n source target starts columns weights b₀ sf sb adaptive u w x y e
     let m = methodFor adaptive n (rowsIn n starts columns weights) source target in
     let f = solve (over forward n (rowsIn n starts columns weights)) sf unwatched n (source ∷ []) in
     let b = solve (over backward n (rowsIn n starts columns weights)) sb unwatched n (target ∷ []) in
-    let fe = x .estimate-is ∙ ap (λ (used : Bool). filled used n (f .estimate)) (w .forward-is) in
-    let fr = x .residual-is ∙ ap (λ (used : Bool). filled used n (f .residual)) (w .forward-is) in
-    let be = y .estimate-is ∙ ap (λ (used : Bool). filled used n (b .estimate)) (w .backward-is) in
-    let br = y .residual-is ∙ ap (λ (used : Bool). filled used n (b .residual)) (w .backward-is) in
+    let fe = x .estimate-is ∙ ap (λ (used : Bool). whereUsed used n (f .estimate)) (w .forward-is) in
+    let fr = x .residual-is ∙ ap (λ (used : Bool). whereUsed used n (f .residual)) (w .forward-is) in
+    let be = y .estimate-is ∙ ap (λ (used : Bool). whereUsed used n (b .estimate)) (w .backward-is) in
+    let br = y .residual-is ∙ ap (λ (used : Bool). whereUsed used n (b .residual)) (w .backward-is) in
     let s = e ∙ score-is m u (sb .alpha) n source target b f w be br fe fr l in
     let p = y .priorities-zero in
     let k = y .nodes-zero in
@@ -165,11 +167,11 @@ links-joined n source target adaptive from to weight l sf sb b h e d s c w =
 -- ---- refused or done
 
 module _ {B : Type 0} (adaptive : Bool) (g : Given Pairs B) (source target : ℕ) (sf sb : Settings) {r : ℕ} (e : r ≡ g .tests 0 or settings sf or settings sb) where
-  pub answer-refused : (r ≡ 0 → ⊥) → Answers adaptive g source target sf sb (left (score r +0) (g .before))
+  pub answer-refused : (r ≡ 0 → ⊥) → ChecksBoth adaptive g source target sf sb (left (scoredOf r +0) (g .before))
   unfolding bySolves
-  answer-refused h = record { leaves = refused (λ k. score k +0) (g .before) _ _ e h }
+  answer-refused h = record { leaves = refused (λ k. scoredOf k +0) (g .before) _ _ e h }
 
-  pub answer-done : r ≡ 0 → {x : Float} {b : B} → Joins adaptive g source target sf sb (left x b) → Answers adaptive g source target sf sb (left (score 0 x) b)
+  pub answer-done : r ≡ 0 → {x : Float} {b : B} → Joins adaptive g source target sf sb (left x b) → ChecksBoth adaptive g source target sf sb (left (scoredOf 0 x) b)
   unfolding bySolves
   answer-done h d =
-      record { leaves = accepted (λ k. score k +0) (g .before) _ _ e h (ap (λ (x : Left Float B). left (score 0 (x .answer)) (x .lent)) (d .leaves)) }
+      record { leaves = accepted (λ k. scoredOf k +0) (g .before) _ _ e h (ap (λ (x : Left Float B). left (scoredOf 0 (x .answer)) (x .lent)) (d .leaves)) }

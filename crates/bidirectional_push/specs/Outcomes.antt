@@ -13,7 +13,7 @@ use Rattle.rules.specs.Ways.{forward, backward}
 use Rattle.rules.specs.Rules.{State, unwatched}
 use Rattle.rules.specs.Answers.{Method, neither, backwardAlone, forwardAlone, both, method, answerBy}
 use Rattle.calls.specs.declared.Scored.{Scored}
-use Rattle.calls.specs.Lent.{score}
+use Rattle.calls.specs.Lent.{scoredOf}
 use Rattle.calls.specs.Outcomes.{Given, ends}
 use Rattle.bidirectional_push.specs.Lent.{Pairs}
 
@@ -32,17 +32,17 @@ usesBackward forwardAlone = false
 usesBackward both = true
 
 -- a vector of a pair that is used, among n nodes; one that is not is filled with +0
-abbrev pub filled : Bool → ℕ → List Float → List Float
-filled used n xs = if used then xs else replicate n +0
+abbrev pub whereUsed : Bool → ℕ → List Float → List Float
+whereUsed used n xs = if used then xs else replicate n +0
 
 -- the two pairs, from the backward and the forward solve
 unfoldable pub pairsBy : Method → ℕ → State → State → Pairs
 pairsBy m n b f =
     record {
-      forward-estimate = filled (usesForward m) n (f .estimate);
-      forward-residual = filled (usesForward m) n (f .residual);
-      backward-estimate = filled (usesBackward m) n (b .estimate);
-      backward-residual = filled (usesBackward m) n (b .residual);
+      forward-estimate = whereUsed (usesForward m) n (f .estimate);
+      forward-residual = whereUsed (usesForward m) n (f .residual);
+      backward-estimate = whereUsed (usesBackward m) n (b .estimate);
+      backward-residual = whereUsed (usesBackward m) n (b .residual);
     }
 
 module _ {B : Type 0} (g : Given Pairs B) (source target : ℕ) (sf sb : Settings) where
@@ -55,7 +55,7 @@ module _ {B : Type 0} (g : Given Pairs B) (source target : ℕ) (sf sb : Setting
 
   -- refused, where either settings record can give 6, or done by a method
   unfoldable pub bySolves : Method → Left Scored B
-  bySolves m = call (g .tests 0 or settings sf or settings sb) (λ k. score k +0) (g .before) (left (score 0 (joined m .answer)) (joined m .lent))
+  bySolves m = call (g .tests 0 or settings sf or settings sb) (λ k. scoredOf k +0) (g .before) (left (scoredOf 0 (joined m .answer)) (joined m .lent))
 
   -- solve_bidirectional
   abbrev pub solveBidirectional : Left Scored B

@@ -23,14 +23,6 @@ use Rattle.bidirectional_push.specs.Outcomes.{usesForward, usesBackward,
 abbrev pub methodFor : Bool → ℕ → List (List Entry) → ℕ → ℕ → Method
 methodFor adaptive n rows source target = if adaptive then method n rows source target else both
 
--- the solves that the method uses left the score, and the lent buffers as they are after it
-pub record Joins {B : Type 0} (adaptive : Bool) (g : Given Pairs B) (source target : ℕ) (sf sb : Settings) (x : Left Float B) : Type 0 where
-  pub leaves : x ≡ joined g source target sf sb (methodFor adaptive (g .nodes) (g .rows) source target)
-
--- a call was refused with its first number, or solved so
-pub record Answers {B : Type 0} (adaptive : Bool) (g : Given Pairs B) (source target : ℕ) (sf sb : Settings) (x : Left Scored B) : Type 0 where
-  pub leaves : x ≡ bySolves g source target sf sb (methodFor adaptive (g .nodes) (g .rows) source target)
-
 -- the same, by the degrees of n nodes
 unfoldable pub methodBy : Bool → ℕ → List Float → List Float → ℕ → ℕ → Method
 methodBy adaptive n ins outs source target =
@@ -41,6 +33,14 @@ methodBy adaptive n ins outs source target =
     then (if ltb source n && ltb target n
     then (if lt (inward ⊗ two) outward then backwardAlone else (if lt (outward ⊗ two) inward then forwardAlone else both)) else neither)
     else both
+
+-- the solves that the method uses left the score, and the lent buffers as they are after it
+pub record Joins {B : Type 0} (adaptive : Bool) (g : Given Pairs B) (source target : ℕ) (sf sb : Settings) (x : Left Float B) : Type 0 where
+  pub leaves : x ≡ joined g source target sf sb (methodFor adaptive (g .nodes) (g .rows) source target)
+
+-- a call was refused with its first number, or solved so
+pub record ChecksBoth {B : Type 0} (adaptive : Bool) (g : Given Pairs B) (source target : ℕ) (sf sb : Settings) (x : Left Scored B) : Type 0 where
+  pub leaves : x ≡ bySolves g source target sf sb (methodFor adaptive (g .nodes) (g .rows) source target)
 
 -- which solves a method uses
 pub record Follows (u : Uses) (m : Method) : Type 0 where

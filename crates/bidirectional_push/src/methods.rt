@@ -25,11 +25,11 @@ pub fn choose(
         if (s < n) & (t < n) {
             let outward = out_degrees[s];
             let inward = in_degrees[t];
-            let backward = inward * 2.0 < outward;
-            let forward = outward * 2.0 < inward;
+            let backward_alone = inward * 2.0 < outward;
+            let forward_alone = outward * 2.0 < inward;
             return Uses {
-                forward: !backward,
-                backward: backward | !forward,
+                forward: !backward_alone,
+                backward: backward_alone | !forward_alone,
             };
         }
         return Uses {
@@ -44,7 +44,7 @@ pub fn choose(
 }
 
 // The list that a solve starts from where it is used, and an empty one where it is not.
-pub fn listed(list: &[u32], used: bool) -> &[u32]
+pub fn list_if_used(list: &[u32], used: bool) -> &[u32]
     ensures { λ r. ⌜ now r ≡ (if used then (now (list .entry)) else []) ⌝ }
 {
     if used {

@@ -10,15 +10,15 @@ ghost use Rattle.calls.specs.Outcomes.{givenRows};
 ghost use Rattle.calls.specs.Promises.{Fits};
 ghost use Rattle.backward_push.specs.Lent.{backLent};
 ghost use Rattle.bidirectional_push.specs.Lent.{bothLent, joining};
-ghost use Rattle.bidirectional_push.specs.Promises.{Joins, Answers};
+ghost use Rattle.bidirectional_push.specs.Promises.{Joins, ChecksBoth};
 use crate::methods;
-use backward_push::turned;
+use backward_push::reversed;
 use calls::Scored;
 use refusals::Settings;
 use solver::Watch;
 
 // The solves of rows that a method uses, and the score. One that is not used starts nowhere, which fills its vectors with
-// +0. The queue's nodes serve as positions while the rows are turned.
+// +0. The queue's nodes serve as positions while the rows are reversed.
 pub fn solve_rows<'a>(
     n: u32,
     starts: &[u32],
@@ -53,7 +53,7 @@ pub fn solve_rows<'a>(
         (left r (bothLent (now («forward_estimate» .exit)) (now («forward_residual» .exit)) (backLent (now («reverse_starts» .exit)) (now («reverse_columns» .exit)) (now («reverse_weights» .exit)) (now («out_degrees» .exit))
         (solveLent (now («backward_estimate» .exit)) (now («backward_residual» .exit)) (now («in_degrees» .exit)) (now (priorities .exit)) (now (nodes .exit)) (now (queued .exit)) (now (visited .exit)))))) ⌝ }
 {
-    turned::turn(
+    reversed::reverse(
         n,
         starts,
         columns,
@@ -66,13 +66,13 @@ pub fn solve_rows<'a>(
         nodes,
     );
     let uses = methods::choose(adaptive, source, target, in_degrees, out_degrees);
-    let from = [source];
-    let to = [target];
+    let sources = [source];
+    let targets = [target];
     calls::solve_settled(
         forward_settings,
         false,
         Watch::Nobody,
-        methods::listed(&from, uses.forward),
+        methods::list_if_used(&sources, uses.forward),
         starts,
         columns,
         reverse_columns,
@@ -91,7 +91,7 @@ pub fn solve_rows<'a>(
         backward_settings,
         true,
         Watch::Nobody,
-        methods::listed(&to, uses.backward),
+        methods::list_if_used(&targets, uses.backward),
         reverse_starts,
         columns,
         reverse_columns,
@@ -106,7 +106,7 @@ pub fn solve_rows<'a>(
         queued,
         visited,
     );
-    turned::clear(
+    reversed::clear(
         reverse_starts,
         reverse_columns,
         reverse_weights,
@@ -150,7 +150,7 @@ pub fn checked_rows<'a>(
     queued: &mut [u64],
     visited: &mut [u64],
 ) -> Scored
-    ensures { λ r. ⌜ Answers adaptive (givenRows joining n (now (starts .entry)) (now (columns .entry)) (now (weights .entry))
+    ensures { λ r. ⌜ ChecksBoth adaptive (givenRows joining n (now (starts .entry)) (now (columns .entry)) (now (weights .entry))
         (bothLent (now («forward_estimate» .entry)) (now («forward_residual» .entry)) (backLent (now («reverse_starts» .entry)) (now («reverse_columns» .entry)) (now («reverse_weights» .entry)) (now («out_degrees» .entry))
         (solveLent (now («backward_estimate» .entry)) (now («backward_residual» .entry)) (now («in_degrees» .entry)) (now (priorities .entry)) (now (nodes .entry)) (now (queued .entry)) (now (visited .entry))))))
         source target «forward_settings» «backward_settings»

@@ -19,7 +19,7 @@ use Rattle.pushes.specs.Meant.{Stands}
 use Rattle.solver.proofs.Graphs.{stands-over}
 use Rattle.calls.specs.declared.Counted.{Counted}
 use Rattle.calls.specs.Lent.{solveLent, solveDone}
-use Rattle.calls.specs.Promises.{Fits, Settled, countsOf}
+use Rattle.calls.specs.Promises.{Fits, SolveSettled, countedIn}
 use Rattle.calls.proofs.Degrees.{degree-at}
 use Rattle.calls.proofs.Left.{settled-left}
 
@@ -79,11 +79,11 @@ module _ {n : ℕ} {backward : Bool} {rows : List (List Entry)} {starts columns 
   fits-still f = rw degrees-long (record { listed = f .listed; room = f .room; degrees-long = degrees-long; queued-long = f .queued-long; visited-long = f .visited-long })
 
   module _ (settings : Settings) (watch : Watch) (sources : List ℕ) {r : Counted} {estimate residual priorities : List Float} {nodes queued visited : List ℕ}
-      (d : Settled (Stands (length degrees) backward starts columns columns′ weights weights′ outs) (λ way. solve way settings watch (length degrees) sources) (length degrees)
+      (d : SolveSettled (Stands (length degrees) backward starts columns columns′ weights weights′ outs) (λ way. solve way settings watch (length degrees) sources) (length degrees)
       r estimate residual priorities nodes queued visited) where
     -- what it leaves, with the degrees cleared
     pub directed-left : {cleared : List Float} → cleared ≡ replicate n +0 → let s = solve (over backward n rows) settings watch n sources in
-        left r (solveLent estimate residual cleared priorities nodes queued visited) ≡ left (countsOf s) (solveDone n (s .estimate) (s .residual))
+        left r (solveLent estimate residual cleared priorities nodes queued visited) ≡ left (countedIn s) (solveDone n (s .estimate) (s .residual))
     directed-left c =
         settled-left (rw degrees-long at d) c (over backward n rows)
         (stands-over n backward rows starts columns columns′ weights weights′ outs (z .rowed) (z .rows-are) (z .outs-are))

@@ -19,14 +19,14 @@ use Rattle.rules.specs.Answers.{visitedCount, scoreAt}
 use Rattle.calls.specs.declared.Counted.{Counted}
 use Rattle.calls.specs.declared.Solved.{Solved}
 use Rattle.calls.specs.declared.Scored.{Scored}
-use Rattle.calls.specs.Lent.{tally, answer, score, solveLent, solveDone}
-use Rattle.calls.specs.Outcomes.{Given, ends, counted, solvedWith, Solves, queried}
-use Rattle.calls.specs.Promises.{Measured, Queried, Settled, Settles, Checks, countsOf}
+use Rattle.calls.specs.Lent.{countedOf, solvedOf, scoredOf, solveLent, solveDone}
+use Rattle.calls.specs.Outcomes.{Given, ends, unmeasured, solvedWith, Solves, queried}
+use Rattle.calls.specs.Promises.{Measured, Queried, SolveSettled, Settles, Checks, countedIn}
 
 -- what a settled solve leaves, with the degrees cleared
 pub settled-left : {meant : Way → Type 0} {f : Way → State} {n : ℕ} {r : Counted} {estimate residual degrees priorities : List Float} {nodes queued visited : List ℕ}
-    → Settled meant f n r estimate residual priorities nodes queued visited → degrees ≡ replicate n +0 → (way : Way) → meant way
-    → left r (solveLent estimate residual degrees priorities nodes queued visited) ≡ left (countsOf (f way)) (solveDone n (f way .estimate) (f way .residual))
+    → SolveSettled meant f n r estimate residual priorities nodes queued visited → degrees ≡ replicate n +0 → (way : Way) → meant way
+    → left r (solveLent estimate residual degrees priorities nodes queued visited) ≡ left (countedIn (f way)) (solveDone n (f way .estimate) (f way .residual))
 unfolding solveDone
 settled-left z d way m =
     let c = z .counts way m in
@@ -46,29 +46,29 @@ or-nothing (suc a) = refl
 
 module _ {B : Type 0} (backward : Bool) (g : Given State B) (s : Settings) (watch : Watch) (sources : List ℕ) (listed further : ℕ) where
   -- a call is refused: r, the number, is not 0
-  pub call-refused : {r : ℕ} → r ≡ g .tests listed or settings s or further → (r ≡ 0 → ⊥) → Checks backward g s watch sources listed further (left (tally r 0 0) (g .before))
-  unfolding counted
-  call-refused e h = record { leaves = refused (λ k. tally k 0 0) (g .before) _ _ e h }
+  pub call-refused : {r : ℕ} → r ≡ g .tests listed or settings s or further → (r ≡ 0 → ⊥) → Checks backward g s watch sources listed further (left (countedOf r 0 0) (g .before))
+  unfolding unmeasured
+  call-refused e h = record { leaves = refused (λ k. countedOf k 0 0) (g .before) _ _ e h }
 
   -- a call is done: the number is 0, and the solve left what it should
   pub call-done : {r : ℕ} {x : Left Counted B} → r ≡ g .tests listed or settings s or further → r ≡ 0 → Settles backward g s watch sources x
       → Checks backward g s watch sources listed further x
-  unfolding counted
-  call-done e h d = record { leaves = accepted (λ k. tally k 0 0) (g .before) _ _ e h (d .leaves) }
+  unfolding unmeasured
+  call-done e h d = record { leaves = accepted (λ k. countedOf k 0 0) (g .before) _ _ e h (d .leaves) }
 
   -- the further tests have the number k
   pub with-further : {k : ℕ} {x : Left Counted B} → further ≡ k → Checks backward g s watch sources listed further x
-      → x ≡ counted (g .tests listed or settings s or k) g (ends backward g s watch sources)
-  with-further e d = d .leaves ∙ ap (λ (k : ℕ). counted (g .tests listed or settings s or k) g (ends backward g s watch sources)) e
+      → x ≡ unmeasured (g .tests listed or settings s or k) g (ends backward g s watch sources)
+  with-further e d = d .leaves ∙ ap (λ (k : ℕ). unmeasured (g .tests listed or settings s or k) g (ends backward g s watch sources)) e
 
   -- there are none
-  pub no-further : {x : Left Counted B} → further ≡ 0 → Checks backward g s watch sources listed further x → x ≡ counted (g .tests listed or settings s) g (ends backward g s watch sources)
-  no-further e d = with-further e d ∙ ap (λ (k : ℕ). counted (g .tests listed or k) g (ends backward g s watch sources)) (or-nothing (settings s))
+  pub no-further : {x : Left Counted B} → further ≡ 0 → Checks backward g s watch sources listed further x → x ≡ unmeasured (g .tests listed or settings s) g (ends backward g s watch sources)
+  no-further e d = with-further e d ∙ ap (λ (k : ℕ). unmeasured (g .tests listed or k) g (ends backward g s watch sources)) (or-nothing (settings s))
 
 -- A solve's outcome is that before its norm was taken, with the norm of the residual that it left.
 pub solve-measured : {B : Type 0} (number : ℕ) (g : Given State B) (s : State) {c : Counted} {b : B} {x : Solved} (residualOf : B → List Float) → residualOf (g .after s) ≡ s .residual
-    → left c b ≡ counted number g s → Measured c (residualOf b) x → Solves number g s (left x b)
-unfolding counted solvedWith call
+    → left c b ≡ unmeasured number g s → Measured c (residualOf b) x → Solves number g s (left x b)
+unfolding unmeasured solvedWith call
 solve-measured zero g s {c} {b} {x} residualOf i d m =
     let z = ap (λ (y : Left Counted _). y .answer .refusal) d in
     record {
@@ -76,7 +76,7 @@ solve-measured zero g s {c} {b} {x} residualOf i d m =
       is-norm = λ _. rw (ap (λ (y : Left Counted _). residualOf (y .lent)) d ∙ i) at (m .is-norm z);
       leaves =
           ap (λ (y : Solved). left y b) (m .done z)
-          ∙ ap (λ (y : Left Counted _). left (answer 0 (y .answer .pushes) (y .answer .visited) (x .«residual_norm»)) (y .lent)) d;
+          ∙ ap (λ (y : Left Counted _). left (solvedOf 0 (y .answer .«push_count») (y .answer .«nodes_visited») (x .«residual_norm»)) (y .lent)) d;
     }
 solve-measured (suc k) g s {c} {b} {x} residualOf i d m =
     let z = ap (λ (y : Left Counted _). y .answer .refusal) d in
@@ -85,26 +85,26 @@ solve-measured (suc k) g s {c} {b} {x} residualOf i d m =
       is-norm = λ h. absurd (omega arith);
       leaves =
           ap (λ (y : Solved). left y b) (m .refused (λ h. absurd (omega arith)))
-          ∙ ap (λ (y : Left Counted _). left (answer (y .answer .refusal) 0 0 +0) (y .lent)) d;
+          ∙ ap (λ (y : Left Counted _). left (solvedOf (y .answer .refusal) 0 0 +0) (y .lent)) d;
     }
 
 -- A query's outcome is that of its solve, with the score that the solve left.
 pub query-answered : {B : Type 0} (number : ℕ) (g : Given State B) (s : State) (v : ℕ) {c : Counted} {b : B} {x : Scored} (estimateOf : B → List Float) → estimateOf (g .after s) ≡ s .estimate
-    → left c b ≡ counted number g s → Queried (c .refusal) (estimateOf b) v x → left x b ≡ queried number g s v
-unfolding counted queried call scoreAt
+    → left c b ≡ unmeasured number g s → Queried (c .refusal) (estimateOf b) v x → left x b ≡ queried number g s v
+unfolding unmeasured queried call scoreAt
 query-answered zero g s v {c} {b} estimateOf i d m =
     let z = ap (λ (y : Left Counted _). y .answer .refusal) d in
     ap (λ (y : Scored). left y b) (m .done z)
-    ∙ ap (λ (y : Left Counted _). left (score 0 (getD (estimateOf (y .lent)) v +0)) (y .lent)) d
-    ∙ ap (λ (xs : List Float). left (score 0 (getD xs v +0)) (g .after s)) i
+    ∙ ap (λ (y : Left Counted _). left (scoredOf 0 (getD (estimateOf (y .lent)) v +0)) (y .lent)) d
+    ∙ ap (λ (xs : List Float). left (scoredOf 0 (getD xs v +0)) (g .after s)) i
 query-answered (suc k) g s v {c} {b} estimateOf i d m =
     let z = ap (λ (y : Left Counted _). y .answer .refusal) d in
-    ap (λ (y : Scored). left y b) (m .refused (λ h. absurd (omega arith))) ∙ ap (λ (y : Left Counted _). left (score (y .answer .refusal) +0) (y .lent)) d
+    ap (λ (y : Scored). left y b) (m .refused (λ h. absurd (omega arith))) ∙ ap (λ (y : Left Counted _). left (scoredOf (y .answer .refusal) +0) (y .lent)) d
 
 module _ {B : Type 0} (number : ℕ) (g : Given State B) (s : State) where
   -- two outcomes that the promise of a solve allows are equal
   pub one-solve : (x y : Left Solved B) → Solves number g s x → Solves number g s y → x ≡ y
   unfolding solvedWith
   one-solve x y p q =
-      agree-by (λ k. answer k 0 0 +0) (g .before) (λ (norm : Float). left (answer 0 (s .pushes) (visitedCount s) norm) (g .after s)) (Norm (s .residual))
+      agree-by (λ k. solvedOf k 0 0 +0) (g .before) (λ (norm : Float). left (solvedOf 0 (s .pushes) (visitedCount s) norm) (g .after s)) (Norm (s .residual))
       (unique (addSquares +0 (s .residual))) number (p .norm) (q .norm) (p .is-norm) (q .is-norm) (p .leaves) (q .leaves)

@@ -44,7 +44,7 @@ unlike-parts ls more ts bs l o t u =
 
 -- ---- other lengths besides
 
--- lengths of which a test tells what is told
+-- lengths whose test gives b: a promise for whatever lengths were tested besides can be used where only the answer of their test is known
 pub told : Bool → List (ℕ × ℕ)
 told true = (0, 1) ∷ []
 told false = []
@@ -63,6 +63,11 @@ none-besides = refl
 pub one-besides : (k n : ℕ) → not (eqb k n) ≡ unlike false ((k, n) ∷ [])
 unfolding unlike
 one-besides k n = refl
+
+-- two are
+pub two-besides : (a b n : ℕ) → (not (eqb a n) || not (eqb b n)) ≡ unlike false ((a, n) ∷ (b, n) ∷ [])
+unfolding unlike
+two-besides a b n = refl
 
 -- the lengths behind others are as stated
 alike-behind : (ps qs : List (ℕ × ℕ)) → Alike (ps ++ qs) → Alike qs

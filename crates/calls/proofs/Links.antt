@@ -16,7 +16,7 @@ use Rattle.rules.specs.Rules.{State, Watch, solve}
 use Rattle.calls.specs.declared.Counted.{Counted}
 use Rattle.calls.specs.Lent.{Lending, LinksLent, linksLent, linksDone}
 use Rattle.calls.specs.Outcomes.{givenRows, givenLinks, ends}
-use Rattle.calls.specs.Promises.{Settles, countsOf}
+use Rattle.calls.specs.Promises.{Settles, countedIn}
 
 -- what a call with rows leaves, as a function of its rows, where they were made in lent buffers and are cleared after it
 pub made-left : {A B : Type 0} {n m j : ℕ} {rows : List (List Entry)} {starts columns positions starts′ columns′ : List ℕ} {weights weights′ : List Float} {r : A} {b : B}
@@ -36,5 +36,5 @@ pub links-settle : {B : Type 0} (k : Lending State B) (backward : Bool) {n j : �
     → Settles backward (givenLinks k n from to weight l) settings watch sources (left r (linksLent starts′ columns′ weights′ b′))
 unfolding givenRows givenLinks ends
 links-settle k backward {n} from to weight l settings watch sources b h e d s c w =
-    let f : List (List Entry) → Left Counted _ = λ rows. let z = solve (over backward n rows) settings watch n sources in left (countsOf z) (k .done n (length from) z) in
+    let f : List (List Entry) → Left Counted _ = λ rows. let z = solve (over backward n rows) settings watch n sources in left (countedIn z) (k .done n (length from) z) in
     record { leaves = made-left f h (rw e at (d .leaves)) s c w }

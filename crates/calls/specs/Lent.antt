@@ -1,4 +1,4 @@
--- What is lent to a call, the lengths that are stated for it, and what it holds after a call that is done. Assumes nothing.
+-- What a call answers, by its parts; what is lent to it, the lengths that are stated for that, and what it holds after a call that is done. Assumes nothing.
 use Prim.Native.Nat.{ℕ, _+_, _/_}
 use mathlib.Core.List.{List, [], _∷_, _++_}
 use lib.ListN.{length, replicate}
@@ -14,16 +14,16 @@ unfoldable pub words : ℕ → ℕ
 words n = (n + 63) / 64
 
 -- the answer of a solve before its norm is taken, by its parts
-abbrev pub tally : ℕ → ℕ → ℕ → Counted
-tally refusal pushes visited = record { refusal = refusal; pushes = pushes; visited = visited }
+abbrev pub countedOf : ℕ → ℕ → ℕ → Counted
+countedOf refusal pushes visited = record { refusal = refusal; «push_count» = pushes; «nodes_visited» = visited }
 
 -- the answer of a solve, by its parts
-abbrev pub answer : ℕ → ℕ → ℕ → Float → Solved
-answer refusal pushes visited norm = record { refusal = refusal; «push_count» = pushes; «nodes_visited» = visited; «residual_norm» = norm }
+abbrev pub solvedOf : ℕ → ℕ → ℕ → Float → Solved
+solvedOf refusal pushes visited norm = record { refusal = refusal; «push_count» = pushes; «nodes_visited» = visited; «residual_norm» = norm }
 
 -- the answer of a query, by its parts
-abbrev pub score : ℕ → Float → Scored
-score refusal x = record { refusal = refusal; score = x }
+abbrev pub scoredOf : ℕ → Float → Scored
+scoredOf refusal x = record { refusal = refusal; score = x }
 
 -- ---- kinds of lending
 

@@ -17,7 +17,7 @@ use Rattle.rules.specs.Answers.{visitedCount, scoreAt}
 use Rattle.calls.specs.declared.Counted.{Counted}
 use Rattle.calls.specs.declared.Solved.{Solved}
 use Rattle.calls.specs.declared.Scored.{Scored}
-use Rattle.calls.specs.Lent.{tally, answer, score, Lending, LinksLent, linksDone}
+use Rattle.calls.specs.Lent.{countedOf, solvedOf, scoredOf, Lending, LinksLent, linksDone}
 
 -- ---- what a call is given
 
@@ -64,12 +64,12 @@ ends backward g s watch sources = solve (over backward (g .nodes) (g .rows)) s w
 
 module _ {B : Type 0} (number : ℕ) (g : Given State B) (s : State) where
   -- a solve before its norm is taken
-  unfoldable pub counted : Left Counted B
-  counted = call number (λ k. tally k 0 0) (g .before) (left (tally 0 (s .pushes) (visitedCount s)) (g .after s))
+  unfoldable pub unmeasured : Left Counted B
+  unmeasured = call number (λ k. countedOf k 0 0) (g .before) (left (countedOf 0 (s .pushes) (visitedCount s)) (g .after s))
 
   -- a solve with this norm of its residual
   unfoldable pub solvedWith : Float → Left Solved B
-  solvedWith norm = call number (λ k. answer k 0 0 +0) (g .before) (left (answer 0 (s .pushes) (visitedCount s) norm) (g .after s))
+  solvedWith norm = call number (λ k. solvedOf k 0 0 +0) (g .before) (left (solvedOf 0 (s .pushes) (visitedCount s) norm) (g .after s))
 
   -- a solve
   pub record Solves (x : Left Solved B) : Type 0 where
@@ -79,7 +79,7 @@ module _ {B : Type 0} (number : ℕ) (g : Given State B) (s : State) where
 
   -- a query of the score of v
   unfoldable pub queried : ℕ → Left Scored B
-  queried v = call number (λ k. score k +0) (g .before) (left (score 0 (scoreAt s v)) (g .after s))
+  queried v = call number (λ k. scoredOf k +0) (g .before) (left (scoredOf 0 (scoreAt s v)) (g .after s))
 
 -- ---- the calls that both directions have
 

@@ -1,5 +1,5 @@
-// What the public calls of the solvers share: the tests of lengths, the answers, and a solve that counts its nodes
-// and clears the queue's workspace.
+// What the public calls of the solvers share: the tests of lengths, the answers, the extrapolated solution, and a solve
+// that counts its nodes and clears the queue's workspace.
 ghost use mathlib.Core.Bool.{false};
 ghost use mathlib.Core.Path.{_≡_};
 ghost use mathlib.Core.List.{[], _∷_};
@@ -13,7 +13,7 @@ ghost use Rattle.solver.specs.Watching.{watchIn};
 ghost use Rattle.pushes.specs.Buffers.{Rows};
 ghost use Rattle.pushes.specs.Meant.{Stands};
 ghost use Rattle.calls.specs.Lent.{words, solveLent};
-ghost use Rattle.calls.specs.Promises.{Fits, Measured, Queried, Settled};
+ghost use Rattle.calls.specs.Promises.{Fits, Measured, Queried, SolveSettled};
 use refusals::Settings;
 use solver::Watch;
 
@@ -21,8 +21,8 @@ use solver::Watch;
 // done.
 pub struct Counted {
     pub refusal: u32,
-    pub pushes: u64,
-    pub visited: u64,
+    pub push_count: u64,
+    pub nodes_visited: u64,
 }
 
 // What a solve answers. Number 0 is done.
@@ -69,7 +69,7 @@ pub fn unlike_solve(
 
 // Whether a test failed before, or a buffer for reverse rows of m entries, or for out-degrees, has another length than
 // stated.
-pub fn unlike_turned(
+pub fn unlike_reverse(
     before: bool,
     n: u32,
     m: usize,
@@ -124,8 +124,8 @@ pub fn measured(c: Counted, residual: &[f64]) -> Solved
     }
     Solved {
         refusal: 0,
-        push_count: c.pushes,
-        nodes_visited: c.visited,
+        push_count: c.push_count,
+        nodes_visited: c.nodes_visited,
         residual_norm: norm::compute_residual_norm(residual),
     }
 }
@@ -193,7 +193,7 @@ pub fn solve_settled<'a>(
 ) -> Counted
     requires { ⌜ Rows (length (now degrees)) backward (now starts) (now columns) (now «reverse_columns») (now weights) (now «reverse_weights») (now degrees) (now outs)
         × Fits (length (now degrees)) (now sources) (solveLent (now estimate) (now residual) (now degrees) (now priorities) (now nodes) (now queued) (now visited)) ⌝ }
-    ensures { λ r. ⌜ Settled (Stands (length (now (degrees .entry))) backward (now (starts .entry)) (now (columns .entry)) (now («reverse_columns» .entry))
+    ensures { λ r. ⌜ SolveSettled (Stands (length (now (degrees .entry))) backward (now (starts .entry)) (now (columns .entry)) (now («reverse_columns» .entry))
         (now (weights .entry)) (now («reverse_weights» .entry)) (now (outs .entry)))
         (λ way. Rules.solve way settings (watchIn watch) (length (now (degrees .entry))) (now (sources .entry)))
         (length (now (degrees .entry))) r (now (estimate .exit)) (now (residual .exit)) (now (priorities .exit)) (now (nodes .exit)) (now (queued .exit)) (now (visited .exit)) ⌝ }
@@ -224,7 +224,7 @@ pub fn solve_settled<'a>(
     marks::clear(visited);
     Counted {
         refusal: 0,
-        pushes: p.pushes,
-        visited: ones as u64,
+        push_count: p.pushes,
+        nodes_visited: ones as u64,
     }
 }

@@ -8,7 +8,7 @@ use Rattle.refusals.specs.Refusals.{_or_, sizes, alphas}
 use Rattle.refusals.specs.Calls.{left, call}
 use Rattle.rules.specs.Answers.{combined}
 use Rattle.calls.specs.declared.Scored.{Scored}
-use Rattle.calls.specs.Lent.{score}
+use Rattle.calls.specs.Lent.{scoredOf}
 
 -- its first number: the first vector's length is the node count
 unfoldable pub combinedRefusal : List Float → List Float → List Float → List Float → Float → ℕ
@@ -19,4 +19,4 @@ combinedRefusal be br fe fr alpha =
 -- its answer
 unfoldable pub combining : List Float → List Float → List Float → List Float → Float → Scored
 combining be br fe fr alpha =
-    call {B = Unit {0}} (combinedRefusal be br fe fr alpha) (λ k. score k +0) tt (left (score 0 (combined alpha be br fe fr (length be))) tt) .answer
+    call {B = Unit {0}} (combinedRefusal be br fe fr alpha) (λ k. scoredOf k +0) tt (left (scoredOf 0 (combined alpha be br fe fr (length be))) tt) .answer

@@ -103,7 +103,7 @@ fn solve_links(
 }
 
 // A forward call with a list of links: refused with the first number that applies, or solved. `listed` is how many
-// sources the call lists, and `further` the number of the tests after those of the settings.
+// sources the call lists, 0 where it names one, and `further` the number of the tests after those of the settings.
 pub fn checked_links(
     n: u32,
     from: &[u32],
@@ -154,8 +154,8 @@ pub fn checked_links(
     if refusal != 0 {
         return Counted {
             refusal,
-            pushes: 0,
-            visited: 0,
+            push_count: 0,
+            nodes_visited: 0,
         };
     }
     solve_links(

@@ -1,9 +1,9 @@
-// The solution that a forward solve's estimate and residual let expect: a public call.
+// The solution that the estimate and the residual of a solve, forward or backward, let expect: a public call.
 ghost use mathlib.Core.Path.{_≡_};
 ghost use Rattle.refusals.specs.Calls.{left};
 ghost use Rattle.forward_push.specs.Outcomes.{extrapolating};
 
-// The solution that the residual of a solve lets expect.
+// Estimate + alpha × residual, refused by 1, 3 and 6.
 #[no_mangle]
 pub extern "C" fn extrapolated_solution(
     estimate: &[f64],

@@ -98,7 +98,7 @@ pub fn solve_rows<'a>(
 }
 
 // A forward call with rows: refused with the first number that applies, or solved. `listed` is how many sources the
-// call lists, and `further` the number of the tests after those of the settings.
+// call lists, 0 where it names one, and `further` the number of the tests after those of the settings.
 pub fn checked_rows<'a>(
     n: u32,
     starts: &[u32],
@@ -142,8 +142,8 @@ pub fn checked_rows<'a>(
     if refusal != 0 {
         return Counted {
             refusal,
-            pushes: 0,
-            visited: 0,
+            push_count: 0,
+            nodes_visited: 0,
         };
     }
     solve_rows(

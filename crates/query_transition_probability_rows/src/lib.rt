@@ -3,7 +3,7 @@ ghost use mathlib.Core.Path.{_≡_};
 ghost use Rattle.refusals.specs.Calls.{left};
 ghost use Rattle.calls.specs.Lent.{solveLent};
 ghost use Rattle.calls.specs.Outcomes.{givenRows};
-ghost use Rattle.backward_push.specs.Lent.{backLent, turning};
+ghost use Rattle.backward_push.specs.Lent.{backLent, reversing};
 ghost use Rattle.backward_push.specs.Outcomes.{queryTransitionProbability};
 use calls::Scored;
 use refusals::Settings;
@@ -32,7 +32,7 @@ pub extern "C" fn query_transition_probability_rows<'a>(
 ) -> Scored
     ensures { λ r. ⌜ left r (backLent (now («reverse_starts» .exit)) (now («reverse_columns» .exit)) (now («reverse_weights» .exit)) (now («out_degrees» .exit))
         (solveLent (now (estimate .exit)) (now (residual .exit)) (now («in_degrees» .exit)) (now (priorities .exit)) (now (nodes .exit)) (now (queued .exit)) (now (visited .exit))))
-        ≡ queryTransitionProbability (givenRows turning n (now (starts .entry)) (now (columns .entry)) (now (weights .entry))
+        ≡ queryTransitionProbability (givenRows reversing n (now (starts .entry)) (now (columns .entry)) (now (weights .entry))
         (backLent (now («reverse_starts» .entry)) (now («reverse_columns» .entry)) (now («reverse_weights» .entry)) (now («out_degrees» .entry))
         (solveLent (now (estimate .entry)) (now (residual .entry)) (now («in_degrees» .entry)) (now (priorities .entry)) (now (nodes .entry)) (now (queued .entry)) (now (visited .entry)))))
         source target settings ⌝ }

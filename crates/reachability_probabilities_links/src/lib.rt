@@ -34,7 +34,7 @@ pub extern "C" fn reachability_probabilities_links(
 ) -> u32
     ensures { λ r. ⌜ left r (linksLent (now (starts .exit)) (now (columns .exit)) (now (weights .exit)) (reachLent (now (solution .exit)) (backLent (now («reverse_starts» .exit)) (now («reverse_columns» .exit)) (now («reverse_weights» .exit)) (now («out_degrees» .exit))
         (solveLent (now (estimate .exit)) (now (residual .exit)) (now («in_degrees» .exit)) (now (priorities .exit)) (now (nodes .exit)) (now (queued .exit)) (now (visited .exit))))))
-        ≡ reachabilityProbabilities (givenLinks (reaching (settings .alpha)) n (now (from .entry)) (now (to .entry)) (now (weight .entry))
+        ≡ reachabilityProbabilities (givenLinks reaching n (now (from .entry)) (now (to .entry)) (now (weight .entry))
         (linksLent (now (starts .entry)) (now (columns .entry)) (now (weights .entry)) (reachLent (now (solution .entry)) (backLent (now («reverse_starts» .entry)) (now («reverse_columns» .entry)) (now («reverse_weights» .entry)) (now («out_degrees» .entry))
         (solveLent (now (estimate .entry)) (now (residual .entry)) (now («in_degrees» .entry)) (now (priorities .entry)) (now (nodes .entry)) (now (queued .entry)) (now (visited .entry)))))))
         target settings ⌝ }

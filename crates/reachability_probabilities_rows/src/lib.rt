@@ -31,7 +31,7 @@ pub extern "C" fn reachability_probabilities_rows<'a>(
 ) -> u32
     ensures { λ r. ⌜ left r (reachLent (now (solution .exit)) (backLent (now («reverse_starts» .exit)) (now («reverse_columns» .exit)) (now («reverse_weights» .exit)) (now («out_degrees» .exit))
         (solveLent (now (estimate .exit)) (now (residual .exit)) (now («in_degrees» .exit)) (now (priorities .exit)) (now (nodes .exit)) (now (queued .exit)) (now (visited .exit)))))
-        ≡ reachabilityProbabilities (givenRows (reaching (settings .alpha)) n (now (starts .entry)) (now (columns .entry)) (now (weights .entry))
+        ≡ reachabilityProbabilities (givenRows reaching n (now (starts .entry)) (now (columns .entry)) (now (weights .entry))
         (reachLent (now (solution .entry)) (backLent (now («reverse_starts» .entry)) (now («reverse_columns» .entry)) (now («reverse_weights» .entry)) (now («out_degrees» .entry))
         (solveLent (now (estimate .entry)) (now (residual .entry)) (now («in_degrees» .entry)) (now (priorities .entry)) (now (nodes .entry)) (now (queued .entry)) (now (visited .entry))))))
         target settings ⌝ }

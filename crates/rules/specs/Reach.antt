@@ -1,6 +1,7 @@
 -- The words of demand 3: "can reach", by any number of kept links, none included, where a link of weight zero counts, and the links out of each node
 -- are given as its row; what is the same of two solves; and what an untouched node has. Assumes nothing.
 use Prim.Native.Nat.{ℕ, _<_}
+use mathlib.Core.Bool.{Bool, true, false}
 use mathlib.Core.Logic.{_↔_}
 use mathlib.Core.Path.{_≡_}
 use mathlib.Core.List.{List, List·Memᴰ}
@@ -30,6 +31,11 @@ Reached row n sources v = One n sources (λ source. Leads row source v)
 -- v can reach a target
 abbrev pub Reaches : (ℕ → List Entry) → ℕ → List ℕ → ℕ → Type 0
 Reaches row n targets v = One n targets (λ target. Leads row v target)
+
+-- forward, a source can reach v; backward, v can reach a target
+abbrev pub Connected : Bool → (ℕ → List Entry) → ℕ → List ℕ → ℕ → Type 0
+Connected false row n list v = Reached row n list v
+Connected true row n list v = Reaches row n list v
 
 -- the kept links out of each node, in the order of the list
 abbrev pub keptLinks : ℕ → List Link → ℕ → List Entry

@@ -2,7 +2,7 @@
 ghost use Rattle.refusals.specs.Calls.{left};
 ghost use Rattle.calls.specs.Lent.{solveLent, linksLent};
 ghost use Rattle.calls.specs.Outcomes.{givenLinks};
-ghost use Rattle.backward_push.specs.Lent.{backLent, turning};
+ghost use Rattle.backward_push.specs.Lent.{backLent, reversing};
 ghost use Rattle.backward_push.specs.Outcomes.{solveMultiTarget};
 use calls::Solved;
 use refusals::Settings;
@@ -31,7 +31,7 @@ pub extern "C" fn solve_multi_target_links(
     queued: &mut [u64],
     visited: &mut [u64],
 ) -> Solved
-    ensures { λ r. ⌜ solveMultiTarget (givenLinks turning n (now (from .entry)) (now (to .entry)) (now (weight .entry))
+    ensures { λ r. ⌜ solveMultiTarget (givenLinks reversing n (now (from .entry)) (now (to .entry)) (now (weight .entry))
         (linksLent (now (starts .entry)) (now (columns .entry)) (now (weights .entry)) (backLent (now («reverse_starts» .entry)) (now («reverse_columns» .entry)) (now («reverse_weights» .entry)) (now («out_degrees» .entry))
         (solveLent (now (estimate .entry)) (now (residual .entry)) (now («in_degrees» .entry)) (now (priorities .entry)) (now (nodes .entry)) (now (queued .entry)) (now (visited .entry))))))
         (now (targets .entry)) settings (left r (linksLent (now (starts .exit)) (now (columns .exit)) (now (weights .exit)) (backLent (now («reverse_starts» .exit)) (now («reverse_columns» .exit)) (now («reverse_weights» .exit)) (now («out_degrees» .exit))

@@ -2,7 +2,7 @@
 ghost use Rattle.refusals.specs.Calls.{left};
 ghost use Rattle.calls.specs.Lent.{solveLent};
 ghost use Rattle.calls.specs.Outcomes.{givenRows};
-ghost use Rattle.backward_push.specs.Lent.{backLent, turning};
+ghost use Rattle.backward_push.specs.Lent.{backLent, reversing};
 ghost use Rattle.backward_push.specs.Outcomes.{solveWithSource};
 use calls::Solved;
 use refusals::Settings;
@@ -30,7 +30,7 @@ pub extern "C" fn solve_with_source_rows<'a>(
     queued: &mut [u64],
     visited: &mut [u64],
 ) -> Solved
-    ensures { λ r. ⌜ solveWithSource (givenRows turning n (now (starts .entry)) (now (columns .entry)) (now (weights .entry))
+    ensures { λ r. ⌜ solveWithSource (givenRows reversing n (now (starts .entry)) (now (columns .entry)) (now (weights .entry))
         (backLent (now («reverse_starts» .entry)) (now («reverse_columns» .entry)) (now («reverse_weights» .entry)) (now («out_degrees» .entry))
         (solveLent (now (estimate .entry)) (now (residual .entry)) (now («in_degrees» .entry)) (now (priorities .entry)) (now (nodes .entry)) (now (queued .entry)) (now (visited .entry)))))
         source target «source_precision» settings (left r (backLent (now («reverse_starts» .exit)) (now («reverse_columns» .exit)) (now («reverse_weights» .exit)) (now («out_degrees» .exit))

@@ -8,8 +8,8 @@ use Rattle.backward_links.proofs.refuse_links.Tie as tie
 unlike-links-requires : tie.Need-unlike-links-requires
 unlike-links-requires c κs = search needs
 
-unlike-turned-requires : tie.Need-unlike-turned-requires
-unlike-turned-requires c κs = search needs
+unlike-reverse-requires : tie.Need-unlike-reverse-requires
+unlike-reverse-requires c κs = search needs
 
 unlike-solve-requires : tie.Need-unlike-solve-requires
 unlike-solve-requires c κs = search needs
@@ -20,14 +20,14 @@ refuse-links-requires c κs = search needs
 returns : tie.Need-returns
 unfolding lengths
 returns c more e =
-    rw (unlike-parts _ more _ _ (c .before .before .before .unlike-links .ensures) e (c .before .before .unlike-turned .ensures) (c .before .unlike-solve .ensures)) at (c .refuse-links .ensures)
+    rw (unlike-parts _ more _ _ (c .before .before .before .unlike-links .ensures) e (c .before .before .unlike-reverse .ensures) (c .before .unlike-solve .ensures)) at (c .refuse-links .ensures)
 
 pub refuse-links-spec : {M : Type 1} → statement M
 refuse-links-spec =
     tie.close
     (tie.spec
     unlike-links-requires
-    unlike-turned-requires
+    unlike-reverse-requires
     unlike-solve-requires
     refuse-links-requires
     returns)

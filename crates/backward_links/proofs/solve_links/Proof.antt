@@ -5,8 +5,8 @@ use Rattle.rules.specs.Ways.{backward}
 use Rattle.solver.specs.Watching.{watchIn}
 use Rattle.calls.proofs.Fits.{fits-nodes}
 use Rattle.calls.proofs.Links.{links-settle}
-use Rattle.backward_push.specs.Lent.{turning}
-use Rattle.backward_push.proofs.Turning.{made-turnable}
+use Rattle.backward_push.specs.Lent.{reversing}
+use Rattle.backward_push.proofs.Reversing.{made-turnable}
 use borrow.Author.Needs.{needs}
 use Rattle.backward_links.proofs.solve_links.Statement.{statement}
 use Rattle.backward_links.proofs.solve_links.Tie as tie
@@ -77,7 +77,7 @@ returns c =
     let a = c .before .before .before .before .before .before .before .before .before .before .before .before .before .before .before .before .before .before .before .before .before .before .before .before .before .before .before .before .before .before .before .before .before .before .before .before .before .before .before .before .before .before .before .before .before .before .before .before .before .before .before .before .before .before .before .before .before .before .before .before .before .before .before .before .before .before .before .before .before .before .before .before .before .before .before .before .before .before .before .before .args in
     let p = c .before .before .before .before .before .before .before .before .before .before .before .before .before .before .before .before .before .before .before .before .before .before .before .before .before .before .before .before .before .before .before .before .before .before .before .before .before .before .before .before .before .before .before .before .before .before .before .before .before .before .before .before .before .before .before .before .before .before .before .before .before .before .before .before .before .before .before .before .before .before .before .before .before .before .before .before .before .before .before .before .pre .0 in
     let b = c .before .before .before .before .before .before .before .before .before .before .before .before .before .before .before .before .before .before .before .before .before .before .before .before .before .before .before .before .before .before .before .before .before .before .before .before .before .before .before .before .before .before .before .before .before .before .before .before .before .before .before .before .before .before .before .before .before .build-rows in
-    links-settle turning backward (now (a .from)) (now (a .to)) (now (a .weight)) _ (a .settings) (watchIn (a .watch)) (now (a .targets)) _ (b .ensures) (b .kept .1 .1 .1 .1 .1 .0 ∙ p .columns-long)
+    links-settle reversing backward (now (a .from)) (now (a .to)) (now (a .weight)) _ (a .settings) (watchIn (a .watch)) (now (a .targets)) _ (b .ensures) (b .kept .1 .1 .1 .1 .1 .0 ∙ p .columns-long)
     (c .before .before .before .before .before .before .before .before .before .before .before .before .before .before .before .before .before .before .before .before .before .before .before .before .before .before .before .before .before .before .before .before .before .before .solve-rows .ensures)
     (rw (b .kept .1 .1 .1 .1 .0, p .starts-long) at (c .before .before .before .before .before .before .before .before .before .before .clear .ensures))
     (rw (b .kept .1 .1 .1 .1 .1 .0, p .columns-long) at (c .before .before .before .before .before .before .clear2 .ensures))

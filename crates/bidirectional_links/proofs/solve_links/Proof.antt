@@ -2,7 +2,7 @@
 use mathlib.Core.Path.{_∙_}
 use denote.Ref.{now}
 use Rattle.calls.proofs.Fits.{fits-nodes}
-use Rattle.backward_push.proofs.Turning.{made-turnable}
+use Rattle.backward_push.proofs.Reversing.{made-turnable}
 use Rattle.bidirectional_push.proofs.Joining.{links-joined}
 use borrow.Author.Needs.{needs}
 use Rattle.bidirectional_links.proofs.solve_links.Statement.{statement}

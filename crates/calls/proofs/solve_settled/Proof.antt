@@ -4,7 +4,7 @@ use denote.Ref.{now}
 use lib.ListN.{length}
 use Rattle.rules.specs.Rules.{State}
 use Rattle.pushes.specs.States.{stateIn}
-use Rattle.calls.specs.Promises.{countsOf}
+use Rattle.calls.specs.Promises.{countedIn}
 use Rattle.calls.proofs.Counting.{few-words, counts-are}
 use borrow.Author.Needs.{needs}
 use Rattle.calls.proofs.solve_settled.Statement.{statement}
@@ -60,7 +60,7 @@ returns c =
     let r = c .before .before .before .before .before .before .before .before .before .before .before .before .before .before .before .before .before .before .before .before .before .before .before .before .before .before .before .before .before .before .solve in
     let n = length (now (a .degrees)) in
     record {
-      counts = λ way st. counts-are n _ _ _ _ _ _ (rw (r .kept .1 .1 .1 .1 .1 .1 .1 .1 .1 .1 .1 .1 .1 .1 .1 .1 .0) (f .room .visited-room)) (r .ensures .beyond) (c .before .before .before .before .before .before .before .before .before .before .before .before .before .before .before .before .count .ensures .1) ∙ ap countsOf (r .ensures .state way st);
+      counts = λ way st. counts-are n _ _ _ _ _ _ (rw (r .kept .1 .1 .1 .1 .1 .1 .1 .1 .1 .1 .1 .1 .1 .1 .1 .1 .0) (f .room .visited-room)) (r .ensures .beyond) (c .before .before .before .before .before .before .before .before .before .before .before .before .before .before .before .before .count .ensures .1) ∙ ap countedIn (r .ensures .state way st);
       estimate-is = λ way st. ap (λ (z : State). z .estimate) (r .ensures .state way st);
       residual-is = λ way st. ap (λ (z : State). z .residual) (r .ensures .state way st);
       priorities-zero = rw (r .ensures .lent .wide) at (c .before .before .before .before .before .before .before .before .before .before .before .before .before .before .clear-floats .ensures);

@@ -7,7 +7,7 @@ use Rattle.refusals.specs.Refusals.{lengths, unlike}
 use Rattle.refusals.specs.Calls.{Left, left}
 use Rattle.refusals.proofs.Laws.{refused, accepted, or-zero, sized}
 use Rattle.calls.specs.declared.Scored.{Scored}
-use Rattle.calls.specs.Lent.{score}
+use Rattle.calls.specs.Lent.{scoredOf}
 use Rattle.combination.specs.Outcomes.{combinedRefusal, combining}
 use borrow.Author.Needs.{needs}
 use Rattle.combination.proofs.combine_with_forward.Statement.{statement}
@@ -30,7 +30,7 @@ or-requires c κs = search needs
 
 returns : tie.Need-returns
 unfolding combining
-returns c = ap (λ (x : Left Scored (Unit {0})). x .answer) (refused (λ k. score k +0) tt _ _ (number (c .before)) (c .if1 .taken))
+returns c = ap (λ (x : Left Scored (Unit {0})). x .answer) (refused (λ k. scoredOf k +0) tt _ _ (number (c .before)) (c .if1 .taken))
 
 combine-requires : tie.Need-combine-requires
 unfolding combinedRefusal
@@ -42,7 +42,7 @@ returns-2 : tie.Need-returns-2
 unfolding combining
 returns-2 c =
     ap (λ (x : Left Scored (Unit {0})). x .answer)
-    (accepted (λ k. score k +0) tt _ _ (number (c .before .before)) (c .before .if1 .left) (ap (λ (z : Float). left (score 0 z) tt) (c .combine .ensures)))
+    (accepted (λ k. scoredOf k +0) tt _ _ (number (c .before .before)) (c .before .if1 .left) (ap (λ (z : Float). left (scoredOf 0 z) tt) (c .combine .ensures)))
 
 pub combine-with-forward-spec : {M : Type 1} → statement M
 combine-with-forward-spec =

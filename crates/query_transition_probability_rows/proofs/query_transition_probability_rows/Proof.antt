@@ -6,8 +6,8 @@ use Rattle.solver.specs.Watching.{watchIn}
 use Rattle.calls.proofs.Left.{no-further, query-answered}
 use Rattle.calls.proofs.After.{rows-after}
 use Rattle.calls.proofs.Lengths.{none-besides}
-use Rattle.backward_push.specs.Lent.{BackLent, turning}
-use Rattle.backward_push.proofs.Turning.{back-estimate}
+use Rattle.backward_push.specs.Lent.{BackLent, reversing}
+use Rattle.backward_push.proofs.Reversing.{back-estimate}
 use borrow.Author.Needs.{needs}
 use Rattle.query_transition_probability_rows.proofs.query_transition_probability_rows.Statement.{statement}
 use Rattle.query_transition_probability_rows.proofs.query_transition_probability_rows.Tie as tie
@@ -57,7 +57,7 @@ same-length-11 c = c .before .before .before .before .before .before .before .be
 returns : tie.Need-returns
 unfolding watchIn
 returns c =
-    query-answered _ _ _ _ (λ b. b .solve .estimate) (rows-after turning (λ (b : BackLent). b .solve .estimate) _ _ (λ n m. back-estimate n m _ _) _ _ _ _ _)
+    query-answered _ _ _ _ (λ b. b .solve .estimate) (rows-after reversing (λ (b : BackLent). b .solve .estimate) _ _ (λ n m. back-estimate n m _ _) _ _ _ _ _)
     (no-further _ _ _ _ _ _ _ refl (c .before .before .before .before .before .before .before .before .before .before .before .before .before .before .before .before .before .before .before .before .before .before .before .before .checked-rows .ensures [] none-besides))
     (c .answered .ensures)
 

@@ -5,8 +5,8 @@ use Rattle.solver.specs.Watching.{watchIn}
 use Rattle.calls.proofs.Left.{no-further, solve-measured}
 use Rattle.calls.proofs.After.{links-after}
 use Rattle.calls.proofs.Lengths.{none-besides}
-use Rattle.backward_push.specs.Lent.{BackLent, turning}
-use Rattle.backward_push.proofs.Turning.{back-residual}
+use Rattle.backward_push.specs.Lent.{BackLent, reversing}
+use Rattle.backward_push.proofs.Reversing.{back-residual}
 use borrow.Author.Needs.{needs}
 use Rattle.solve_multi_target_links.proofs.solve_multi_target_links.Statement.{statement}
 use Rattle.solve_multi_target_links.proofs.solve_multi_target_links.Tie as tie
@@ -62,7 +62,7 @@ same-length-14 c = c .before .before .before .before .before .before .before .be
 returns : tie.Need-returns
 unfolding watchIn
 returns c =
-    solve-measured _ _ _ (λ b. b .rest .solve .residual) (links-after turning (λ (b : BackLent). b .solve .residual) _ _ (λ n m. back-residual n m _ _) _ _ _ _ _)
+    solve-measured _ _ _ (λ b. b .rest .solve .residual) (links-after reversing (λ (b : BackLent). b .solve .residual) _ _ (λ n m. back-residual n m _ _) _ _ _ _ _)
     (no-further _ _ _ _ _ _ _ refl (c .before .before .before .before .before .before .before .before .before .before .before .before .before .before .before .before .before .before .before .before .before .before .before .before .before .before .before .before .before .before .checked-links .ensures [] none-besides))
     (c .measured .ensures)
 

@@ -11,7 +11,7 @@ use Rattle.calls.proofs.Left.{call-refused, call-done}
 use Rattle.calls.proofs.Asked.{rows-asked}
 use Rattle.calls.proofs.Fits.{fits}
 use Rattle.calls.proofs.Lengths.{told, told-unlike, sized-behind, rows-besides}
-use Rattle.backward_push.specs.Lent.{backLent, turning}
+use Rattle.backward_push.specs.Lent.{backLent, reversing}
 use borrow.Author.Needs.{needs}
 use Rattle.backward_push.proofs.rows.checked_rows.Statement.{statement}
 use Rattle.backward_push.proofs.rows.checked_rows.Tie as tie
@@ -20,7 +20,7 @@ use Rattle.backward_push.proofs.rows.checked_rows.Tie as tie
 number : (c : tie.After-or2) → let a = c .before .before .before .before .before .before .before .before .before .before .before .before .before .before .before .before .before .before .before .args in
     (more : List (ℕ × ℕ)) → a .other ≡ unlike false more
     → c .or2 .result
-    ≡ givenRows (besides more turning) (a .n) (now (a .starts)) (now (a .columns)) (now (a .weights))
+    ≡ givenRows (besides more reversing) (a .n) (now (a .starts)) (now (a .columns)) (now (a .weights))
     (backLent (now (a .reverse-starts)) (now (a .reverse-columns)) (now (a .reverse-weights)) (now (a .out-degrees))
     (solveLent (now (a .estimate)) (now (a .residual)) (now (a .in-degrees)) (now (a .priorities)) (now (a .nodes)) (now (a .queued)) (now (a .visited))))
     .tests (a .listed) or settings (a .settings) or a .further
@@ -48,7 +48,7 @@ solve-rows-requires c κs =
     let s = c .before .before .before .before .before .before .before .before .before .before .before .before .before .before .before .before .before .before .before .before .before .before .before .before .before .before .before .before .before .before .before in
     let a = s .args in
     let t = told (a .other) in
-    let q = rows-asked (besides t turning) (a .listed) _ _ _ _ _ _ (number (c .before .before .before .before .before .before .before .before .before .before .before .before) t (told-unlike (a .other))) (c .before .before .before .before .before .before .before .before .before .before .before .if1 .left) in
+    let q = rows-asked (besides t reversing) (a .listed) _ _ _ _ _ _ (number (c .before .before .before .before .before .before .before .before .before .before .before .before) t (told-unlike (a .other))) (c .before .before .before .before .before .before .before .before .before .before .before .if1 .left) in
     let z = sized-behind t _ (q .1) in
     let l = z .long in
     let f = fits _ _ (s .pre) (record { nodes = z .nodes; links = z .links; listed = z .listed; long = l .1 .1 .1 .1 }) in (
@@ -99,7 +99,7 @@ same-length-11 : tie.Need-same-length-11
 same-length-11 c = c .before .before .before .before .before .before .before .before .before .before .before .before .before .before .before .before .before .before .before .before .before .before .solve-rows .kept .1 .1 .1 .1 .1 .1 .1 .1 .1 .1 .1 .1 .1 .1 .1 .1 .1 .0
 
 returns-2 : tie.Need-returns-2
-returns-2 c more e = call-done _ _ _ _ _ _ _ (number (c .before .before .before .before .before .before .before .before .before .before .before .before .before .before .before .before .before .before .before .before .before .before .before .before .before .before .before .before .before .before .before .before .before .before .before) more e) (c .before .before .before .before .before .before .before .before .before .before .before .before .before .before .before .before .before .before .before .before .before .before .before .before .before .before .before .before .before .before .before .before .before .before .if1 .left) (rows-besides turning more _ _ _ _ _ _ _ _ _ (c .before .before .before .before .before .before .before .before .before .before .before .before .before .before .before .before .before .before .before .before .before .before .solve-rows .ensures))
+returns-2 c more e = call-done _ _ _ _ _ _ _ (number (c .before .before .before .before .before .before .before .before .before .before .before .before .before .before .before .before .before .before .before .before .before .before .before .before .before .before .before .before .before .before .before .before .before .before .before) more e) (c .before .before .before .before .before .before .before .before .before .before .before .before .before .before .before .before .before .before .before .before .before .before .before .before .before .before .before .before .before .before .before .before .before .before .if1 .left) (rows-besides reversing more _ _ _ _ _ _ _ _ _ (c .before .before .before .before .before .before .before .before .before .before .before .before .before .before .before .before .before .before .before .before .before .before .solve-rows .ensures))
 
 pub checked-rows-spec : {M : Type 1} → statement M
 checked-rows-spec =

@@ -8,8 +8,8 @@ use Rattle.backward_push.proofs.rows.refuse_rows.Tie as tie
 unlike-rows-requires : tie.Need-unlike-rows-requires
 unlike-rows-requires c κs = search needs
 
-unlike-turned-requires : tie.Need-unlike-turned-requires
-unlike-turned-requires c κs = search needs
+unlike-reverse-requires : tie.Need-unlike-reverse-requires
+unlike-reverse-requires c κs = search needs
 
 unlike-solve-requires : tie.Need-unlike-solve-requires
 unlike-solve-requires c κs = search needs
@@ -20,14 +20,14 @@ refuse-rows-requires c κs = search needs
 returns : tie.Need-returns
 unfolding lengths
 returns c more e =
-    rw (unlike-parts _ more _ _ (c .before .before .before .unlike-rows .ensures) e (c .before .before .unlike-turned .ensures) (c .before .unlike-solve .ensures)) at (c .refuse-rows .ensures)
+    rw (unlike-parts _ more _ _ (c .before .before .before .unlike-rows .ensures) e (c .before .before .unlike-reverse .ensures) (c .before .unlike-solve .ensures)) at (c .refuse-rows .ensures)
 
 pub refuse-rows-spec : {M : Type 1} → statement M
 refuse-rows-spec =
     tie.close
     (tie.spec
     unlike-rows-requires
-    unlike-turned-requires
+    unlike-reverse-requires
     unlike-solve-requires
     refuse-rows-requires
     returns)

@@ -8,11 +8,11 @@ use lib.ListN.{length}
 use Rattle.refusals.specs.Refusals.{_or_, settings}
 use Rattle.calls.specs.Lent.{solveLent}
 use Rattle.calls.specs.Outcomes.{givenRows}
+use Rattle.calls.proofs.Lengths.{two-besides}
 use Rattle.calls.proofs.Asked.{rows-asked}
 use Rattle.calls.proofs.Fits.{fits}
 use Rattle.backward_push.specs.Lent.{backLent}
 use Rattle.bidirectional_push.specs.Lent.{bothLent, joining}
-use Rattle.bidirectional_push.proofs.Room.{two-besides}
 use Rattle.bidirectional_push.proofs.Joining.{answer-refused, answer-done}
 use borrow.Author.Needs.{needs}
 use Rattle.bidirectional_push.proofs.rows.checked_rows.Statement.{statement}

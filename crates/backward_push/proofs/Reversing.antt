@@ -15,15 +15,15 @@ use Rattle.graph.proofs.Back.{held-rowed, held-rows}
 use Rattle.rules.specs.Rules.{State}
 use Rattle.calls.specs.declared.Counted.{Counted}
 use Rattle.calls.specs.Lent.{SolveLent, solveDone}
-use Rattle.calls.specs.Promises.{countsOf}
+use Rattle.calls.specs.Promises.{countedIn}
 use Rattle.calls.proofs.After.{done-estimate, done-residual}
 use Rattle.calls.proofs.Directed.{Directed, sums-long, sums-are}
 use Rattle.backward_push.specs.Lent.{backLent, backDone}
-use Rattle.backward_push.specs.Promises.{Turned}
+use Rattle.backward_push.specs.Promises.{Reversed}
 
 -- the rows of the direction are the reverse ones
 pub directed-backward : {n : ℕ} {starts columns reverse-starts reverse-columns : List ℕ} {weights reverse-weights ins outs : List Float} → Rowed n starts columns weights
-    → Turned n starts columns weights reverse-starts reverse-columns reverse-weights ins outs → length reverse-columns ≡ length columns → length reverse-weights ≡ length columns
+    → Reversed n starts columns weights reverse-starts reverse-columns reverse-weights ins outs → length reverse-columns ≡ length columns → length reverse-weights ≡ length columns
     → Directed n true (rowsIn n starts columns weights) reverse-starts columns reverse-columns weights reverse-weights ins outs
 unfolding chosen if_then_else_
 directed-backward z t c w = record {
@@ -38,9 +38,9 @@ directed-backward z t c w = record {
 
 -- what a solve leaves, with the reverse rows and the out-degrees cleared
 pub back-left : (n m : ℕ) (s : State) {r : Counted} {b : SolveLent} {reverse-starts reverse-columns : List ℕ} {reverse-weights outs : List Float}
-    → left r b ≡ left (countsOf s) (solveDone n (s .estimate) (s .residual)) → reverse-starts ≡ replicate (n + 1) 0 → reverse-columns ≡ replicate m 0
+    → left r b ≡ left (countedIn s) (solveDone n (s .estimate) (s .residual)) → reverse-starts ≡ replicate (n + 1) 0 → reverse-columns ≡ replicate m 0
     → reverse-weights ≡ replicate m +0 → outs ≡ replicate n +0
-    → left r (backLent reverse-starts reverse-columns reverse-weights outs b) ≡ left (countsOf s) (backDone n m (solveDone n (s .estimate) (s .residual)))
+    → left r (backLent reverse-starts reverse-columns reverse-weights outs b) ≡ left (countedIn s) (backDone n m (solveDone n (s .estimate) (s .residual)))
 unfolding backDone
 back-left n m s {reverse-starts = rs} {reverse-columns = rc} {reverse-weights = rv} {outs = o} d es ec ew eo =
     ap (λ (x : Left Counted SolveLent). left (x .answer) (backLent rs rc rv o (x .lent))) d ∙ rw (es, ec, ew, eo)
@@ -55,7 +55,7 @@ module _ (n m : ℕ) (estimate residual : List Float) where
   unfolding backDone
   back-residual = done-residual n estimate residual
 
--- rows that were made of links can be turned, in buffers as long
+-- rows that were made of links can be reversed, in buffers as long
 pub made-turnable : {n j : ℕ} {rows : List (List Entry)} {from to starts columns nodes starts′ columns′ positions nodes′ reverse-starts reverse-columns : List ℕ}
     {weight weights weights′ reverse-weights : List Float} → Buffers n from to weight starts columns weights nodes → Compressed j n rows (length from) starts′ columns′ weights′ positions
     → length columns′ ≡ length columns → length reverse-starts ≡ n + 1 → length reverse-columns ≡ length from → length reverse-weights ≡ length from → length nodes′ ≡ n

@@ -1,12 +1,12 @@
-// Rows turned round: the reverse rows of lent rows and the degrees of both, which a backward solve works out for itself.
+// The reverse rows of lent rows and the degrees of both, which a backward solve works out for itself.
 ghost use mathlib.Core.Path.{_≡_};
 ghost use lib.ListN.{length, replicate};
 ghost use Rattle.numbers.specs.Numbers.{+0};
 ghost use Rattle.graph.specs.Store.{RowBuffers};
-ghost use Rattle.backward_push.specs.Promises.{Turned};
+ghost use Rattle.backward_push.specs.Promises.{Reversed};
 
 // Works out the reverse rows, and the degrees of both.
-pub fn turn(
+pub fn reverse(
     n: u32,
     starts: &[u32],
     columns: &[u32],
@@ -20,7 +20,7 @@ pub fn turn(
 )
     requires { ⌜ RowBuffers n (now starts) (now columns) (now weights) (now «reverse_starts») (now «reverse_columns») (now «reverse_weights») (now positions)
         × (length (now «in_degrees») ≡ n) × (length (now «out_degrees») ≡ n) ⌝ }
-    ensures { λ _. ⌜ Turned n (now (starts .entry)) (now (columns .entry)) (now (weights .entry)) (now («reverse_starts» .exit)) (now («reverse_columns» .exit))
+    ensures { λ _. ⌜ Reversed n (now (starts .entry)) (now (columns .entry)) (now (weights .entry)) (now («reverse_starts» .exit)) (now («reverse_columns» .exit))
         (now («reverse_weights» .exit)) (now («in_degrees» .exit)) (now («out_degrees» .exit)) ⌝ }
 {
     graph::sum_rows(starts, weights, out_degrees);
@@ -37,7 +37,7 @@ pub fn turn(
     graph::sum_rows(reverse_starts, reverse_weights, in_degrees);
 }
 
-// Clears what `turn` worked out.
+// Clears what `reverse` worked out.
 pub fn clear(
     reverse_starts: &mut [u32],
     reverse_columns: &mut [u32],

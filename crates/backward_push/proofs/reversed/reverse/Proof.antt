@@ -1,9 +1,9 @@
--- `backward_push::turned::turn` meets its contract: each part by what `graph` ensures. Assumes nothing.
+-- `backward_push::reversed::reverse` meets its contract: each part by what `graph` ensures. Assumes nothing.
 use Rattle.graph.proofs.Given.{summing-of}
 use Rattle.graph.proofs.Back.{held-rowed}
 use borrow.Author.Needs.{needs}
-use Rattle.backward_push.proofs.turned.turn.Statement.{statement}
-use Rattle.backward_push.proofs.turned.turn.Tie as tie
+use Rattle.backward_push.proofs.reversed.reverse.Statement.{statement}
+use Rattle.backward_push.proofs.reversed.reverse.Tie as tie
 
 sum-rows-requires : tie.Need-sum-rows-requires
 sum-rows-requires c κs = let p = c .before .before .before .before .before .before .before .before .before .before .pre in rw (p .2) (summing-of (p .0 .rowed))
@@ -41,8 +41,8 @@ returns c =
       outs = rw (p .2) at (c .before .before .before .before .before .before .before .before .before .before .before .before .before .before .before .before .before .before .before .before .before .sum-rows .ensures);
     }
 
-pub turn-spec : {M : Type 1} → statement M
-turn-spec =
+pub reverse-spec : {M : Type 1} → statement M
+reverse-spec =
     tie.close
     (tie.spec
     sum-rows-requires
