@@ -1,18 +1,13 @@
--- A text that grows by parts: a part that is pasted behind it, and one part after another. Assumes nothing.
+-- A text that grows by parts: a part that is pasted behind it, one part after another, and the whole buffer by the part. Assumes nothing.
 use Prim.Native.Nat.{ℕ, _+_, _≤_}
 use native.Mathlib.Nat.{le-refl, add-zero, add-assoc}
 use native.Mathlib.Omega.{arith}
 use mathlib.Core.List.{List, [], _++_, append-assoc, append-nil}
 use mathlib.Core.Path.{_≡_, refl, sym, ap, subst, _∙_}
-use lib.ListN.{length, take, drop, length-take, length-append}
-use lib.Seq.{paste, length-paste, take-paste, take-length, length-take-le, drop-at, drop-drop}
+use lib.ListN.{length, take, drop, take-append-drop, length-take, length-append}
+use lib.Seq.{paste, length-paste, take-paste, drop-paste, take-length, length-take-le, drop-drop}
 use Rattle.io.specs.Counts.{Counts}
 use Rattle.job_text.specs.Text.{Grown}
-
--- what stands before the next byte is as long as its place says
-pasted-front : (text : List ℕ) (at : ℕ) (part : List ℕ) → at + length part ≤ length text → length (take at text ++ take (length part) part) ≡ at + length part
-pasted-front text at part room =
-    length-append (take at text) (take (length part) part) ∙ omega (arith, length-take-le at text (omega arith), length-take-le (length part) part (le-refl _))
 
 -- a part behind the first `at` bytes
 pub pasted-grown : (text : List ℕ) (at : ℕ) (part : List ℕ) → at + length part ≤ length text
@@ -22,7 +17,7 @@ pasted-grown text at part room =
       next = refl;
       same-room = length-paste text at part (length part) room (le-refl _);
       holds = take-paste text at part (length part) (omega arith) (le-refl _) ∙ ap (λ (s : List ℕ). take at text ++ s) (take-length part);
-      behind = drop-at (take at text ++ take (length part) part) (drop (at + length part) text) (at + length part) (pasted-front text at part room);
+      behind = drop-paste text at part (length part) (omega arith) (le-refl _);
     }
 
 -- no part
@@ -39,6 +34,12 @@ grown-then {at} {r} {r′} {first} {second} {text} {text′} a b =
       holds = b .holds ∙ ap (λ (s : List ℕ). s ++ second) (a .holds) ∙ append-assoc (take at text) first second;
       behind = b .behind ∙ subst (λ (k : ℕ). drop k text′ ≡ drop k text) (sym (b .next)) (sym (drop-drop (length second) r text′) ∙ ap (λ (s : List ℕ). drop (length second) s) (a .behind) ∙ drop-drop (length second) r text);
     }
+
+-- the whole buffer, by the part
+pub grown-is : {at r : ℕ} {part text text′ : List ℕ} → Grown at part text r text′ → text′ ≡ take at text ++ part ++ drop (at + length part) text
+grown-is {at} {r} {part} {text} {text′} g =
+    sym (take-append-drop r text′) ∙ ap (λ (s : List ℕ). s ++ drop r text′) (g .holds)
+    ∙ ap (λ (s : List ℕ). take at text ++ part ++ s) (g .behind ∙ ap (λ (k : ℕ). drop k text) (g .next))
 
 -- what was put at the start lies within the buffer
 pub grown-counts : {r : ℕ} {part text text′ : List ℕ} → Grown 0 part text r text′ → Counts r text′

@@ -1,6 +1,6 @@
 -- Numbers as text: how long they are, and that the fewest decimal digits that hold a number are as many as `places` counts. Assumes nothing.
 use Prim.Native.Nat.{ℕ, zero, suc, _+_, _-_, _*_, _/_, _%_, _^_, _≤_, _<_}
-use native.Mathlib.Nat.{pow-le-pow-right}
+use native.Mathlib.Nat.{one-le-pow, pow-le-pow-right}
 use native.Mathlib.Numerals.{unary-clauses, add-one}
 use native.Mathlib.Decide.{decLt}
 use native.Mathlib.Omega.{arith, pow-step}
@@ -25,10 +25,6 @@ fewest-few b least most n k p h bound f = go (decLt most k)
         absurd (omega arith)
     go (no few) = omega arith
 
-pow-positive : (j : ℕ) → 1 ≤ 10 ^ j
-pow-positive zero = omega arith
-pow-positive (suc j) = omega (arith, pow-step 10 j, pow-positive j)
-
 -- counted up to one more than `most`
 pub fewest-places : (most k n : ℕ) → k ≤ suc most → Fewest 10 1 n k → k ≡ places most n
 unfolding places if_then_else_
@@ -38,7 +34,7 @@ fewest-places (suc most) (suc zero) n h f = rw (lt-ltb n 10 (f .1))
 fewest-places (suc most) (suc (suc j)) n h f =
     let low : 10 ^ j * 10 ≤ n = simp unary-clauses at (f .2 (omega arith)) in
     let high : n < 10 * 10 ^ suc j = rw (pow-step 10 (suc j)) at (f .1) in
-    let some : 1 ≤ 10 ^ j = pow-positive j in
+    let some : 1 ≤ 10 ^ j = one-le-pow j 10 (omega arith) in
     let step : 10 ^ suc j ≡ 10 * 10 ^ j = pow-step 10 j in
     let least : 10 ^ j ≤ n / 10 = omega arith in
     rw (le-ltb n 10 (omega arith))

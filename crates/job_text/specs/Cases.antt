@@ -39,16 +39,16 @@ less-zero = refl
 -- a job of a wrong shape
 refused-eight : refusedLine 8
     ≡ 114 ∷ 101 ∷ 102 ∷ 117 ∷ 115 ∷ 101 ∷ 100 ∷ 32 ∷ 56 ∷ 10 ∷ []
-unfolding places decimal bits toBits ofBits refusedLine doneLine nodeLine nodeLines if_then_else_
+unfolding places decimal refusedLine if_then_else_
 refused-eight = refl
 
 -- P1, line by line
 first-line : doneLine 3 2 (f64 0x3fc0_0000_0000_0000)
     ≡ 100 ∷ 111 ∷ 110 ∷ 101 ∷ 32 ∷ 51 ∷ 32 ∷ 50 ∷ 32 ∷ 51 ∷ 102 ∷ 99 ∷ 48 ∷ 48 ∷ 48 ∷ 48 ∷ 48 ∷ 48 ∷ 48 ∷ 48 ∷ 48 ∷ 48 ∷ 48 ∷ 48 ∷ 48 ∷ 10 ∷ []
-unfolding places decimal bits toBits ofBits refusedLine doneLine nodeLine nodeLines if_then_else_
+unfolding places decimal bits toBits ofBits doneLine if_then_else_
 first-line = refl
 
 node-lines : nodeLines 0 (f64 0x3fe0_0000_0000_0000 ∷ f64 0x3fd8_0000_0000_0000 ∷ []) (+0 ∷ f64 0x3fc0_0000_0000_0000 ∷ [])
     ≡ 48 ∷ 32 ∷ 51 ∷ 102 ∷ 101 ∷ 48 ∷ 48 ∷ 48 ∷ 48 ∷ 48 ∷ 48 ∷ 48 ∷ 48 ∷ 48 ∷ 48 ∷ 48 ∷ 48 ∷ 48 ∷ 32 ∷ 48 ∷ 48 ∷ 48 ∷ 48 ∷ 48 ∷ 48 ∷ 48 ∷ 48 ∷ 48 ∷ 48 ∷ 48 ∷ 48 ∷ 48 ∷ 48 ∷ 48 ∷ 48 ∷ 10 ∷ 49 ∷ 32 ∷ 51 ∷ 102 ∷ 100 ∷ 56 ∷ 48 ∷ 48 ∷ 48 ∷ 48 ∷ 48 ∷ 48 ∷ 48 ∷ 48 ∷ 48 ∷ 48 ∷ 48 ∷ 48 ∷ 32 ∷ 51 ∷ 102 ∷ 99 ∷ 48 ∷ 48 ∷ 48 ∷ 48 ∷ 48 ∷ 48 ∷ 48 ∷ 48 ∷ 48 ∷ 48 ∷ 48 ∷ 48 ∷ 48 ∷ 10 ∷ []
-unfolding places decimal bits toBits ofBits refusedLine doneLine nodeLine nodeLines if_then_else_
+unfolding places decimal bits toBits ofBits nodeLine nodeLines if_then_else_
 node-lines = refl

@@ -105,7 +105,7 @@ pub fn append_done(text: &mut [u8], at: usize, pushes: u64, visited: u64, norm: 
 // The line of a node.
 fn append_node(text: &mut [u8], at: usize, v: u64, estimate: f64, residual: f64) -> usize
     requires { ⌜ (at + 64 ≤ length (now text)) × (length (now text) ≤ 65536) ⌝ }
-    ensures { λ r. ⌜ Grown at (nodeLine v estimate residual) (now (text .entry)) r (now (text .exit)) × (r ≤ at + 55) ⌝ }
+    ensures { λ r. ⌜ Grown at (nodeLine v estimate residual) (now (text .entry)) r (now (text .exit)) × (r ≤ at + 64) ⌝ }
 {
     let number = append_count(text, at, v);
     let scored = append_bits(text, number, estimate);
