@@ -1,7 +1,7 @@
 -- The text of a solve's answer is that of the job: the lent buffers have the lengths that are stated, so that the solve's first number is the job's.
 -- Assumes nothing.
 use Prim.Native.Nat.{ℕ, zero, suc, _+_, _*_}
-use mathlib.Core.Bool.{Bool, true, false, not}
+use mathlib.Core.Bool.{Bool, true, false}
 use mathlib.Core.List.{List, [], _∷_, _++_}
 use mathlib.Core.Path.{_≡_, refl, ap, _∙_}
 use borrow.Author.Tests.{eq-eqb}
@@ -23,12 +23,8 @@ use Rattle.forward_push.specs.Outcomes.{solveMultiSource}
 use Rattle.job_fields.specs.Fields.{wordsAt, floatsAt}
 use Rattle.job_fields.specs.Shape.{nodesIn, linksIn, sourcesIn, shaped}
 use Rattle.job_text.specs.Text.{refusedLine, doneLine, nodeLines, Grown}
-use Rattle.jobs.specs.Jobs.{settingsIn, job, jobIn, refusal, end, refusedOr}
-use Rattle.jobs.specs.Promises.{ListsLong, RowsLong, SolveLong, Writes, writes}
-
--- the text of an answer and two vectors
-abbrev pub answered : Solved → List Float → List Float → List ℕ
-answered r estimate residual = refusedOr (r .refusal) (doneLine (r .«push_count») (r .«nodes_visited») (r .«residual_norm») ++ nodeLines 0 estimate residual)
+use Rattle.jobs.specs.Jobs.{settingsIn, job, jobIn, refusal, end, refusedOr, doneText, prints}
+use Rattle.jobs.specs.Promises.{ListsLong, RowsLong, SolveLong, answered, Writes, writes}
 
 -- a refusal
 pub text-refused : (number : ℕ) (done : List ℕ) {text text′ : List ℕ} {r : ℕ} → (number ≡ 0 → ⊥) → Grown 0 (refusedLine number) text r text′ → Grown 0 (refusedOr number done) text r text′
@@ -51,7 +47,7 @@ alike-lengths (p ∷ ps) h = rw (eq-eqb (p .0) (p .1) (h .0)) (alike-lengths ps 
 -- the answer's text, by the solve's first number and the state that it ends in
 solved-answered : {B : Type 0} (number : ℕ) (g : Given State B) (s : State) (norm : Float) (estimateOf residualOf : B → List Float)
     → estimateOf (g .after s) ≡ s .estimate → residualOf (g .after s) ≡ s .residual → {r : Solved} {b : B} → left r b ≡ solvedWith number g s norm
-    → answered r (estimateOf b) (residualOf b) ≡ refusedOr number (doneLine (s .pushes) (visitedCount s) norm ++ nodeLines 0 (s .estimate) (s .residual))
+    → answered r (estimateOf b) (residualOf b) ≡ refusedOr number (doneText s norm)
 unfolding solvedWith call refusedOr
 solved-answered {B} zero g s norm estimateOf residualOf he hr e =
     ap (λ (x : Left Solved B). answered (x .answer) (estimateOf (x .lent)) (residualOf (x .lent))) e
@@ -91,7 +87,7 @@ module _ (n : ℕ) (from to : List ℕ) (weight : List Float) (sources : List �
                   (links-after solving (λ (x : SolveLent). x .estimate) (end j) (end j .estimate) (λ n m. done-estimate n (end j .estimate) (end j .residual)) n from to weight b)
                   (links-after solving (λ (x : SolveLent). x .residual) (end j) (end j .residual) (λ n m. done-residual n (end j .estimate) (end j .residual)) n from to weight b)
                   (solves .leaves)
-                  ∙ ap (λ (x : ℕ). refusedOr x (doneLine (end j .pushes) (visitedCount (end j)) (solves .norm) ++ nodeLines 0 (end j .estimate) (end j .residual))) (number-is b l r v);
+                  ∙ ap (λ (x : ℕ). refusedOr x (doneText (end j) (solves .norm))) (number-is b l r v);
             };
         grown = grown;
       }
@@ -108,11 +104,11 @@ job-read bytes hn hf ht hw hs h l₁ l₂ l₃ l₄ lk = rw (hn, hf, ht, hw, hs,
 
 module _ (bytes : List ℕ) {text text′ : List ℕ} {r : ℕ} where
   -- bytes of another shape
-  pub misshapen-writes : shaped bytes ≡ false → Grown 0 (refusedLine 8) text r text′ → Writes (8 when not (shaped bytes) or refusal (jobIn bytes)) (jobIn bytes) text r text′
+  pub misshapen-writes : shaped bytes ≡ false → Grown 0 (refusedLine 8) text r text′ → Writes (prints bytes) text r text′
   unfolding _when_ _or_ refusedOr
   misshapen-writes h g = rw h (record { part = refusedLine 8; printed = record { norm = +0; is-norm = λ e. absurd (omega arith); is-text = refl }; grown = g })
 
   -- and of a job's
-  pub shaped-writes : shaped bytes ≡ true → writes (jobIn bytes) text r text′ → Writes (8 when not (shaped bytes) or refusal (jobIn bytes)) (jobIn bytes) text r text′
+  pub shaped-writes : shaped bytes ≡ true → writes (jobIn bytes) text r text′ → Writes (prints bytes) text r text′
   unfolding _when_ _or_
   shaped-writes h w = rw h w

@@ -1,12 +1,12 @@
 -- Demand 3 of what a job prints: among the lines of the nodes, that of a node which no source can reach shows score and remainder +0. Assumes nothing.
 use Prim.Native.Nat.{ℕ, suc, _<_}
 use mathlib.Core.List.{_++_}
-use mathlib.Core.Path.{_≡_, sym, ap, _∙_}
+use mathlib.Core.Path.{_≡_, sym, _∙_}
 use lib.ListN.{take, drop}
-use lib.Ieee.{Float, nan}
+use lib.Ieee.{nan}
 use Rattle.numbers.specs.Numbers.{+0}
 use Rattle.graph.specs.Rows.{linksOf}
-use Rattle.rules.specs.Rules.{at, unwatched}
+use Rattle.rules.specs.Rules.{unwatched}
 use Rattle.rules.specs.Reach.{Reached, Untouched, keptLinks}
 use Rattle.rules.proofs.Lengths.{Sized, solve-sized}
 use Rattle.rules.proofs.Unreached.{unreached}
@@ -32,6 +32,4 @@ module _ (j : Job) where
   unreached-line v h off =
       let z = end-sized in
       let u = end-untouched v h off in
-      line-at v (end j .estimate) (end j .residual) nan (rw (z .estimate-long) h) (z .residual-long ∙ sym (z .estimate-long))
-      ∙ ap (λ (x : Float). nodeLines 0 (take v (end j .estimate)) (take v (end j .residual)) ++ (nodeLine v x (at (end j .residual) v) ++ nodeLines (suc v) (drop (suc v) (end j .estimate)) (drop (suc v) (end j .residual)))) (u .score)
-      ∙ ap (λ (x : Float). nodeLines 0 (take v (end j .estimate)) (take v (end j .residual)) ++ (nodeLine v +0 x ++ nodeLines (suc v) (drop (suc v) (end j .estimate)) (drop (suc v) (end j .residual)))) (u .remainder)
+      rw (u .score, u .remainder) at (line-at v (end j .estimate) (end j .residual) nan (rw (z .estimate-long) h) (z .residual-long ∙ sym (z .estimate-long)))

@@ -64,11 +64,15 @@ unfoldable pub refusedOr : ℕ → List ℕ → List ℕ
 refusedOr zero done = done
 refusedOr (suc k) done = refusedLine (suc k)
 
+-- the text of a solve that is done, by the state that it ends in
+abbrev pub doneText : State → Float → List ℕ
+doneText s norm = doneLine (s .pushes) (visitedCount s) norm ++ nodeLines 0 (s .estimate) (s .residual)
+
 -- the text of a job with this first number
 pub record Prints (number : ℕ) (j : Job) (text : List ℕ) : Type 0 where
   pub norm : Float
   pub is-norm : number ≡ 0 → Norm (end j .residual) norm
-  pub is-text : text ≡ refusedOr number (doneLine (end j .pushes) (visitedCount (end j)) norm ++ nodeLines 0 (end j .estimate) (end j .residual))
+  pub is-text : text ≡ refusedOr number (doneText (end j) norm)
 
 -- the text for bytes: a wrong shape is 8, before the rest
 abbrev pub prints : List ℕ → List ℕ → Type 0

@@ -1,12 +1,13 @@
 -- What the functions of `jobs` ask of what is lent to them, and what they promise of the text. Assumes nothing.
 use Prim.Native.Nat.{ℕ, _+_, _≤_}
-use mathlib.Core.List.{List}
+use mathlib.Core.List.{List, _++_}
 use mathlib.Core.Path.{_≡_}
 use lib.ListN.{length}
 use lib.Ieee.{Float}
+use Rattle.calls.specs.declared.Solved.{Solved}
 use Rattle.calls.specs.Lent.{words, SolveLent}
-use Rattle.job_text.specs.Text.{Grown}
-use Rattle.jobs.specs.Jobs.{Job, refusal, Prints}
+use Rattle.job_text.specs.Text.{doneLine, nodeLines, Grown}
+use Rattle.jobs.specs.Jobs.{Job, refusal, refusedOr, Prints}
 
 -- there is room for the text of any job
 pub record Roomy (text : List ℕ) : Type 0 where
@@ -34,12 +35,16 @@ pub record SolveLong (n : ℕ) (b : SolveLent) : Type 0 where
   pub queued-long : length (b .queued) ≡ words n
   pub visited-long : length (b .visited) ≡ words n
 
--- the text of a job with this first number stands at the start of the buffer, is r long, and the bytes behind it are as they were
-pub record Writes (number : ℕ) (j : Job) (text : List ℕ) (r : ℕ) (text′ : List ℕ) : Type 0 where
+-- the text of an answer and two vectors
+abbrev pub answered : Solved → List Float → List Float → List ℕ
+answered r estimate residual = refusedOr (r .refusal) (doneLine (r .«push_count») (r .«nodes_visited») (r .«residual_norm») ++ nodeLines 0 estimate residual)
+
+-- a text of which P holds stands at the start of the buffer, is r long, and the bytes behind it are as they were
+pub record Writes (P : List ℕ → Type 0) (text : List ℕ) (r : ℕ) (text′ : List ℕ) : Type 0 where
   pub part : List ℕ
-  pub printed : Prints number j part
+  pub printed : P part
   pub grown : Grown 0 part text r text′
 
--- the same, for a job that has its shape
+-- the text of a job that has its shape
 abbrev pub writes : Job → List ℕ → ℕ → List ℕ → Type 0
-writes j = Writes (refusal j) j
+writes j = Writes (Prints (refusal j) j)

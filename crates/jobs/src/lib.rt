@@ -1,16 +1,14 @@
 // A job, from its bytes to the text that it prints. The buffers of its solve are lent in layers.
-ghost use mathlib.Core.Bool.{not, true};
-ghost use mathlib.Core.List.{_++_};
+ghost use mathlib.Core.Bool.{true};
 ghost use mathlib.Core.Path.{_≡_};
 ghost use Prim.Native.Nat.{_≤_};
 ghost use lib.ListN.{length};
 ghost use Rattle.calls.specs.Lent.{solveLent};
-ghost use Rattle.refusals.specs.Refusals.{_or_, _when_};
 ghost use Rattle.io.specs.Counts.{Counts};
 ghost use Rattle.job_fields.specs.Shape.{linksIn, sourcesIn, shaped};
-ghost use Rattle.job_text.specs.Text.{doneLine, nodeLines, Grown};
-ghost use Rattle.jobs.specs.Jobs.{settingsIn, job, jobIn, refusal, refusedOr};
-ghost use Rattle.jobs.specs.Promises.{Roomy, ListsLong, RowsLong, SolveLong, Writes, writes};
+ghost use Rattle.job_text.specs.Text.{Grown};
+ghost use Rattle.jobs.specs.Jobs.{settingsIn, job, jobIn, prints};
+ghost use Rattle.jobs.specs.Promises.{Roomy, ListsLong, RowsLong, SolveLong, answered, Writes, writes};
 use calls::Solved;
 use refusals::Settings;
 
@@ -34,9 +32,7 @@ fn settings_in(bytes: &[u8]) -> Settings
 // Writes what a solve answered and left in its two vectors.
 fn tell(solved: Solved, estimate: &[f64], residual: &[f64], text: &mut [u8]) -> usize
     requires { ⌜ (length (now estimate) ≤ 256) × (length (now residual) ≡ length (now estimate)) × Roomy (now text) ⌝ }
-    ensures { λ r. ⌜ Grown 0 (refusedOr (solved .refusal)
-        (doneLine (solved .«push_count») (solved .«nodes_visited») (solved .«residual_norm») ++ nodeLines 0 (now (estimate .entry)) (now (residual .entry))))
-        (now (text .entry)) r (now (text .exit)) ⌝ }
+    ensures { λ r. ⌜ Grown 0 (answered solved (now (estimate .entry)) (now (residual .entry))) (now (text .entry)) r (now (text .exit)) ⌝ }
 {
     if solved.refusal != 0 {
         return job_text::append_refused(text, 0, solved.refusal);
@@ -228,8 +224,7 @@ fn run_shaped(bytes: &[u8], text: &mut [u8]) -> usize
 
 // Writes the text of a job, and answers its length.
 pub fn run(bytes: &[u8], text: &mut [u8; ROOM]) -> usize
-    ensures { λ r. ⌜ Writes (8 when not (shaped (now (bytes .entry))) or refusal (jobIn (now (bytes .entry)))) (jobIn (now (bytes .entry)))
-        (now (text .entry)) r (now (text .exit)) ⌝ }
+    ensures { λ r. ⌜ Writes (prints (now (bytes .entry))) (now (text .entry)) r (now (text .exit)) ⌝ }
     ensures { λ r. ⌜ Counts r (now (text .exit)) ⌝ }
 {
     if !job_fields::is_shaped(bytes) {
