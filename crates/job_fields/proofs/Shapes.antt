@@ -4,7 +4,7 @@ use native.Mathlib.Omega.{arith}
 use mathlib.Core.Bool.{Bool, true, false, _&&_}
 use mathlib.Core.List.{List}
 use mathlib.Core.Path.{_≡_, refl}
-use borrow.Author.Tests.{leb-true, ltb-true, eqb-true}
+use borrow.Author.Tests.{leb-true, eqb-true}
 use lib.Dec.{leb, ltb, eqb}
 use lib.ListN.{length}
 use Rattle.numbers.proofs.Tests.{both}
@@ -16,7 +16,6 @@ pub record Shape (bytes : List ℕ) : Type 0 where
   pub few-nodes : nodesIn bytes ≤ 256
   pub few-links : linksIn bytes ≤ 1024
   pub few-sources : sourcesIn bytes ≤ 16
-  pub flags : wordAt bytes 52 < 2
 
 pub shape : (bytes : List ℕ) → shaped bytes ≡ true → Shape bytes
 unfolding shaped
@@ -31,7 +30,6 @@ shape bytes h =
       few-nodes = leb-true _ _ (m .0);
       few-links = leb-true _ _ (k .0);
       few-sources = leb-true _ _ (k .1);
-      flags = ltb-true _ _ (l .1);
     }
 
 -- bytes of another length than a job can have

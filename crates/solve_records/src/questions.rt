@@ -1,5 +1,5 @@
 // The calls, by number. Those that take a graph have a number for a list of links, named here, and the
-// same with `ROWS` added for rows.
+// same with `ROWS` added for rows. The last call of a kind is made where no other is named.
 pub const MULTI_SOURCE: u32 = 0;
 
 pub const SINGLE_SOURCE: u32 = 1;

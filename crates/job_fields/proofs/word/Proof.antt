@@ -1,5 +1,4 @@
 -- `job_fields::word` meets its contract: four bytes, joined from the last on. Assumes nothing.
-use native.Mathlib.Omega.{arith}
 use borrow.Author.Needs.{needs}
 use Rattle.job_fields.specs.Fields.{number, wordAt}
 use Rattle.job_fields.proofs.word.Statement.{statement}
@@ -40,7 +39,7 @@ joined-requires-4 c κs = search needs
 
 returns : tie.Need-returns
 unfolding wordAt number
-returns c = omega (arith, c .joined4 .ensures .0, c .before .before .joined3 .ensures .0, c .before .before .before .before .joined2 .ensures .0, c .before .before .before .before .before .before .joined .ensures .0)
+returns c = rw (c .joined4 .ensures .0, c .before .before .joined3 .ensures .0, c .before .before .before .before .joined2 .ensures .0, c .before .before .before .before .before .before .joined .ensures .0)
 
 pub word-spec : {M : Type 1} → statement M
 word-spec =
