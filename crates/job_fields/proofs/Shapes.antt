@@ -1,4 +1,4 @@
--- What holds of bytes that have the shape of a job, and that bytes which are too short or too long have it not. Assumes nothing.
+-- What holds of bytes that have the shape of a job, and that bytes which are too short have it not. Assumes nothing.
 use Prim.Native.Nat.{ℕ, _+_, _*_, _≤_, _<_}
 use native.Mathlib.Omega.{arith}
 use mathlib.Core.Bool.{Bool, true, false, _&&_}
@@ -32,14 +32,10 @@ shape bytes h =
       few-sources = leb-true _ _ (k .1);
     }
 
--- bytes of another length than a job can have
-module _ (bytes : List ℕ) where
-  misshapen : (Shape bytes → ⊥) → (b : Bool) → shaped bytes ≡ b → shaped bytes ≡ false
-  misshapen not-so true h = absurd (not-so (shape bytes h))
-  misshapen not-so false h = h
-
-  pub too-short : length bytes < 56 → shaped bytes ≡ false
-  too-short h = misshapen (λ s. omega (arith, s .long)) (shaped bytes) refl
-
-  pub too-long : 16504 < length bytes → shaped bytes ≡ false
-  too-long h = misshapen (λ s. omega (arith, s .long, s .few-links, s .few-sources)) (shaped bytes) refl
+-- bytes that are fewer than the header and the settings have
+pub too-short : (bytes : List ℕ) → length bytes < 56 → shaped bytes ≡ false
+too-short bytes h = go (shaped bytes) refl
+  where
+    go : (b : Bool) → shaped bytes ≡ b → shaped bytes ≡ false
+    go true e = absurd (omega (arith, shape bytes e .long))
+    go false e = e

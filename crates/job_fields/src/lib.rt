@@ -16,7 +16,7 @@ fn joined(byte: u8, above: u32) -> u32
 
 // The u32 at a place.
 pub fn word(bytes: &[u8], at: usize) -> u32
-    requires { ⌜ (at + 4 ≤ length (now bytes)) × (length (now bytes) ≤ 65536) ⌝ }
+    requires { ⌜ at + 4 ≤ length (now bytes) ⌝ }
     ensures { λ r. ⌜ r ≡ wordAt (now (bytes .entry)) at ⌝ }
 {
     let last = joined(bytes[at + 3], 0);
@@ -27,7 +27,7 @@ pub fn word(bytes: &[u8], at: usize) -> u32
 
 // The f64 at a place.
 pub fn float(bytes: &[u8], at: usize) -> f64
-    requires { ⌜ (at + 8 ≤ length (now bytes)) × (length (now bytes) ≤ 65536) ⌝ }
+    requires { ⌜ at + 8 ≤ length (now bytes) ⌝ }
     ensures { λ r. ⌜ r ≡ floatAt (now (bytes .entry)) at ⌝ }
 {
     let low = word(bytes, at) as u64;
@@ -35,12 +35,9 @@ pub fn float(bytes: &[u8], at: usize) -> f64
     numbers::float_of(low + 0x1_0000_0000 * high)
 }
 
-// The greatest length of a job: 1,024 links and 16 sources.
-const LONGEST: usize = 16_504;
-
 // Whether the three offsets are as they have to be.
 fn has_offsets(bytes: &[u8]) -> bool
-    requires { ⌜ (56 ≤ length (now bytes)) × (length (now bytes) ≤ 65536) ⌝ }
+    requires { ⌜ 56 ≤ length (now bytes) ⌝ }
     ensures { λ r. ⌜ r ≡ offsets (now (bytes .entry)) ⌝ }
 {
     let links = word(bytes, 4) as u64;
@@ -50,7 +47,7 @@ fn has_offsets(bytes: &[u8]) -> bool
 
 // Whether the header keeps a job's own limits.
 fn has_limits(bytes: &[u8]) -> bool
-    requires { ⌜ (56 ≤ length (now bytes)) × (length (now bytes) ≤ 65536) ⌝ }
+    requires { ⌜ 56 ≤ length (now bytes) ⌝ }
     ensures { λ r. ⌜ r ≡ limits (now (bytes .entry)) ⌝ }
 {
     (word(bytes, 0) <= 256) & ((word(bytes, 4) <= 1024) & (word(bytes, 8) <= 16))
@@ -58,7 +55,7 @@ fn has_limits(bytes: &[u8]) -> bool
 
 // Whether the file ends after the sources.
 fn has_length(bytes: &[u8]) -> bool
-    requires { ⌜ (56 ≤ length (now bytes)) × (length (now bytes) ≤ 65536) ⌝ }
+    requires { ⌜ 56 ≤ length (now bytes) ⌝ }
     ensures { λ r. ⌜ r ≡ eqb (length (now (bytes .entry))) (56 + 16 * linksIn (now (bytes .entry)) + 4 * sourcesIn (now (bytes .entry))) ⌝ }
 {
     let links = word(bytes, 4) as u64;
@@ -70,11 +67,7 @@ fn has_length(bytes: &[u8]) -> bool
 pub fn is_shaped(bytes: &[u8]) -> bool
     ensures { λ r. ⌜ r ≡ shaped (now (bytes .entry)) ⌝ }
 {
-    let n = bytes.len();
-    if n < 56 {
-        return false;
-    }
-    if n > LONGEST {
+    if bytes.len() < 56 {
         return false;
     }
     has_length(bytes) & (has_offsets(bytes) & (has_limits(bytes) & (word(bytes, 52) < 2)))
@@ -82,7 +75,7 @@ pub fn is_shaped(bytes: &[u8]) -> bool
 
 // Fills a list with the u32 from a place on, each so many bytes behind the one before. The last lies in the bytes.
 pub fn read_words(bytes: &[u8], at: usize, step: usize, list: &mut [u32])
-    requires { ⌜ (at + step * length (now list) + 4 ≤ length (now bytes) + step) × (length (now bytes) ≤ 65536) ⌝ }
+    requires { ⌜ at + step * length (now list) + 4 ≤ length (now bytes) + step ⌝ }
     ensures { λ _. ⌜ now (list .exit) ≡ wordsAt (now (bytes .entry)) at step (length (now (list .entry))) ⌝ }
 {
     let mut i: usize = 0;
@@ -94,7 +87,7 @@ pub fn read_words(bytes: &[u8], at: usize, step: usize, list: &mut [u32])
 
 // Fills a list with the f64 from a place on, likewise.
 pub fn read_floats(bytes: &[u8], at: usize, step: usize, list: &mut [f64])
-    requires { ⌜ (at + step * length (now list) + 8 ≤ length (now bytes) + step) × (length (now bytes) ≤ 65536) ⌝ }
+    requires { ⌜ at + step * length (now list) + 8 ≤ length (now bytes) + step ⌝ }
     ensures { λ _. ⌜ now (list .exit) ≡ floatsAt (now (bytes .entry)) at step (length (now (list .entry))) ⌝ }
 {
     let mut i: usize = 0;

@@ -9,7 +9,7 @@ ghost use Rattle.job_text.specs.Text.{decimal, bits, space, refusedLine,
 
 // Puts a part behind the first `at` bytes, and answers where the next one goes.
 pub fn append(text: &mut [u8], at: usize, part: &[u8]) -> usize
-    requires { ⌜ (at + length (now part) ≤ length (now text)) × (length (now text) ≤ 65536) ⌝ }
+    requires { ⌜ at + length (now part) ≤ length (now text) ⌝ }
     ensures { λ r. ⌜ Grown at (now (part .entry)) (now (text .entry)) r (now (text .exit)) ⌝ }
 {
     let mut i = 0;
@@ -22,7 +22,7 @@ pub fn append(text: &mut [u8], at: usize, part: &[u8]) -> usize
 
 // A whole number in decimal.
 pub fn append_decimal(text: &mut [u8], at: usize, n: u64) -> usize
-    requires { ⌜ (at + 20 ≤ length (now text)) × (length (now text) ≤ 65536) ⌝ }
+    requires { ⌜ at + 20 ≤ length (now text) ⌝ }
     ensures { λ r. ⌜ Grown at (decimal n) (now (text .entry)) r (now (text .exit)) ⌝ }
 {
     let mut digits = [0u8; 20];
@@ -63,7 +63,7 @@ fn spell(n: u64, room: &mut [u8])
 
 // The bits of a float, as hex digits.
 pub fn append_bits(text: &mut [u8], at: usize, x: f64) -> usize
-    requires { ⌜ (at + 16 ≤ length (now text)) × (length (now text) ≤ 65536) ⌝ }
+    requires { ⌜ at + 16 ≤ length (now text) ⌝ }
     ensures { λ r. ⌜ Grown at (bits x) (now (text .entry)) r (now (text .exit)) ⌝ }
 {
     let mut digits = [0u8; 16];
@@ -73,7 +73,7 @@ pub fn append_bits(text: &mut [u8], at: usize, x: f64) -> usize
 
 // The line of a refusal.
 pub fn append_refused(text: &mut [u8], at: usize, number: u32) -> usize
-    requires { ⌜ (at + 64 ≤ length (now text)) × (length (now text) ≤ 65536) ⌝ }
+    requires { ⌜ at + 64 ≤ length (now text) ⌝ }
     ensures { λ r. ⌜ Grown at (refusedLine number) (now (text .entry)) r (now (text .exit)) ⌝ }
 {
     let word = append(text, at, b"refused ");
@@ -83,7 +83,7 @@ pub fn append_refused(text: &mut [u8], at: usize, number: u32) -> usize
 
 // A whole number and a space.
 fn append_count(text: &mut [u8], at: usize, n: u64) -> usize
-    requires { ⌜ (at + 21 ≤ length (now text)) × (length (now text) ≤ 65536) ⌝ }
+    requires { ⌜ at + 21 ≤ length (now text) ⌝ }
     ensures { λ r. ⌜ Grown at (decimal n ++ space) (now (text .entry)) r (now (text .exit)) ⌝ }
 {
     let told = append_decimal(text, at, n);
@@ -92,7 +92,7 @@ fn append_count(text: &mut [u8], at: usize, n: u64) -> usize
 
 // The first line of a solve that is done.
 pub fn append_done(text: &mut [u8], at: usize, pushes: u64, visited: u64, norm: f64) -> usize
-    requires { ⌜ (at + 64 ≤ length (now text)) × (length (now text) ≤ 65536) ⌝ }
+    requires { ⌜ at + 64 ≤ length (now text) ⌝ }
     ensures { λ r. ⌜ Grown at (doneLine pushes visited norm) (now (text .entry)) r (now (text .exit)) × (r ≤ at + 64) ⌝ }
 {
     let word = append(text, at, b"done ");
@@ -104,7 +104,7 @@ pub fn append_done(text: &mut [u8], at: usize, pushes: u64, visited: u64, norm: 
 
 // The line of a node.
 fn append_node(text: &mut [u8], at: usize, v: u64, estimate: f64, residual: f64) -> usize
-    requires { ⌜ (at + 64 ≤ length (now text)) × (length (now text) ≤ 65536) ⌝ }
+    requires { ⌜ at + 64 ≤ length (now text) ⌝ }
     ensures { λ r. ⌜ Grown at (nodeLine v estimate residual) (now (text .entry)) r (now (text .exit)) × (r ≤ at + 64) ⌝ }
 {
     let number = append_count(text, at, v);
@@ -116,7 +116,7 @@ fn append_node(text: &mut [u8], at: usize, v: u64, estimate: f64, residual: f64)
 
 // The lines of all nodes.
 pub fn append_nodes(text: &mut [u8], at: usize, estimate: &[f64], residual: &[f64]) -> usize
-    requires { ⌜ (length (now residual) ≡ length (now estimate)) × (at + 64 * length (now estimate) ≤ length (now text)) × (length (now text) ≤ 65536) ⌝ }
+    requires { ⌜ (length (now residual) ≡ length (now estimate)) × (at + 64 * length (now estimate) ≤ length (now text)) ⌝ }
     ensures { λ r. ⌜ Grown at (nodeLines 0 (now (estimate .entry)) (now (residual .entry))) (now (text .entry)) r (now (text .exit)) ⌝ }
 {
     let mut next = at;

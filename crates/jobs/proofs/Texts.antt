@@ -2,7 +2,7 @@
 -- Assumes nothing.
 use Prim.Native.Nat.{ℕ, zero, suc, _+_, _*_}
 use mathlib.Core.Bool.{Bool, true, false}
-use mathlib.Core.List.{List, [], _∷_, _++_}
+use mathlib.Core.List.{List, [], _∷_}
 use mathlib.Core.Path.{_≡_, refl, ap, _∙_}
 use borrow.Author.Tests.{eq-eqb}
 use native.Mathlib.Omega.{arith}
@@ -14,7 +14,6 @@ use Rattle.refusals.specs.Calls.{Left, left, call}
 use Rattle.refusals.specs.declared.Settings.{Settings}
 use Rattle.refusals.proofs.Laws.{Alike}
 use Rattle.rules.specs.Rules.{State}
-use Rattle.rules.specs.Answers.{visitedCount}
 use Rattle.calls.specs.declared.Solved.{Solved}
 use Rattle.calls.specs.Lent.{SolveLent, LinksLent, solveLengths, solving}
 use Rattle.calls.specs.Outcomes.{Given, givenLinks, ends, solvedWith}
@@ -22,7 +21,7 @@ use Rattle.calls.proofs.After.{done-estimate, done-residual, links-after}
 use Rattle.forward_push.specs.Outcomes.{solveMultiSource}
 use Rattle.job_fields.specs.Fields.{wordsAt, floatsAt}
 use Rattle.job_fields.specs.Shape.{nodesIn, linksIn, sourcesIn, shaped}
-use Rattle.job_text.specs.Text.{refusedLine, doneLine, nodeLines, Grown}
+use Rattle.job_text.specs.Text.{refusedLine, Grown}
 use Rattle.jobs.specs.Jobs.{settingsIn, job, jobIn, refusal, end, refusedOr, doneText, prints}
 use Rattle.jobs.specs.Promises.{ListsLong, RowsLong, SolveLong, answered, Writes, writes}
 
@@ -50,9 +49,7 @@ solved-answered : {B : Type 0} (number : ℕ) (g : Given State B) (s : State) (n
     → answered r (estimateOf b) (residualOf b) ≡ refusedOr number (doneText s norm)
 unfolding solvedWith call refusedOr
 solved-answered {B} zero g s norm estimateOf residualOf he hr e =
-    ap (λ (x : Left Solved B). answered (x .answer) (estimateOf (x .lent)) (residualOf (x .lent))) e
-    ∙ ap (λ (v : List Float). doneLine (s .pushes) (visitedCount s) norm ++ nodeLines 0 v (residualOf (g .after s))) he
-    ∙ ap (λ (v : List Float). doneLine (s .pushes) (visitedCount s) norm ++ nodeLines 0 (s .estimate) v) hr
+    ap (λ (x : Left Solved B). answered (x .answer) (estimateOf (x .lent)) (residualOf (x .lent))) e ∙ rw (he, hr)
 solved-answered {B} (suc k) g s norm estimateOf residualOf he hr e = ap (λ (x : Left Solved B). answered (x .answer) (estimateOf (x .lent)) (residualOf (x .lent))) e
 
 module _ (n : ℕ) (from to : List ℕ) (weight : List Float) (sources : List ℕ) (s : Settings) where

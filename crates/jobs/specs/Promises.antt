@@ -10,9 +10,8 @@ use Rattle.job_text.specs.Text.{doneLine, nodeLines, Grown}
 use Rattle.jobs.specs.Jobs.{Job, refusal, refusedOr, Prints}
 
 -- there is room for the text of any job
-pub record Roomy (text : List ℕ) : Type 0 where
-  pub enough : 16448 ≤ length text
-  pub few : length text ≤ 65536
+abbrev pub Roomy : List ℕ → Type 0
+Roomy text = 16448 ≤ length text
 
 -- the lists of m links are as long as each other
 pub record ListsLong (m : ℕ) (to : List ℕ) (weight : List Float) : Type 0 where

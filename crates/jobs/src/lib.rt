@@ -17,7 +17,7 @@ pub const ROOM: usize = 16_448;
 
 // The settings in a job's bytes.
 fn settings_in(bytes: &[u8]) -> Settings
-    requires { ⌜ (56 ≤ length (now bytes)) × (length (now bytes) ≤ 65536) ⌝ }
+    requires { ⌜ 56 ≤ length (now bytes) ⌝ }
     ensures { λ r. ⌜ r ≡ settingsIn (now (bytes .entry)) ⌝ }
 {
     Settings {

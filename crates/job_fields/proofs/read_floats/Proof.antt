@@ -25,17 +25,17 @@ loop-holds c = (zero-le, refl, over-none _ _)
 mul-float : tie.Need-mul-float Inv-loop μ-loop
 mul-float c =
     let a = c .before .before .before .before .args in
-    omega (arith, field-inside (a .at) (a .step) (c .before .loop .i) (length (now (a .list))) 8 (length (now (a .bytes))) (omega arith) (c .before .before .before .before .pre .0), c .before .before .before .before .pre .1)
+    omega (arith, field-inside (a .at) (a .step) (c .before .loop .i) (length (now (a .list))) 8 (length (now (a .bytes))) (omega arith) (c .before .before .before .before .pre), c .before .before .before .before .good .0 .0)
 
 add-float : tie.Need-add-float Inv-loop μ-loop
 add-float c =
     let a = c .before .before .before .before .args in
-    omega (arith, field-inside (a .at) (a .step) (c .before .loop .i) (length (now (a .list))) 8 (length (now (a .bytes))) (omega arith) (c .before .before .before .before .pre .0), c .before .before .before .before .pre .1)
+    omega (arith, field-inside (a .at) (a .step) (c .before .loop .i) (length (now (a .list))) 8 (length (now (a .bytes))) (omega arith) (c .before .before .before .before .pre), c .before .before .before .before .good .0 .0)
 
 float-requires : tie.Need-float-requires Inv-loop μ-loop
 float-requires c κs =
     let a = c .before .before .before .before .args in
-    (field-inside (a .at) (a .step) (c .before .loop .i) (length (now (a .list))) 8 (length (now (a .bytes))) (omega arith) (c .before .before .before .before .pre .0), c .before .before .before .before .pre .1)
+    field-inside (a .at) (a .step) (c .before .loop .i) (length (now (a .list))) 8 (length (now (a .bytes))) (omega arith) (c .before .before .before .before .pre)
 
 mul-list : tie.Need-mul-list Inv-loop μ-loop
 mul-list c = search needs

@@ -24,17 +24,17 @@ loop-holds c = (zero-le, refl, over-none _ _)
 mul-word : tie.Need-mul-word Inv-loop μ-loop
 mul-word c =
     let a = c .before .before .before .before .args in
-    omega (arith, field-inside (a .at) (a .step) (c .before .loop .i) (length (now (a .list))) 4 (length (now (a .bytes))) (omega arith) (c .before .before .before .before .pre .0), c .before .before .before .before .pre .1)
+    omega (arith, field-inside (a .at) (a .step) (c .before .loop .i) (length (now (a .list))) 4 (length (now (a .bytes))) (omega arith) (c .before .before .before .before .pre), c .before .before .before .before .good .0 .0)
 
 add-word : tie.Need-add-word Inv-loop μ-loop
 add-word c =
     let a = c .before .before .before .before .args in
-    omega (arith, field-inside (a .at) (a .step) (c .before .loop .i) (length (now (a .list))) 4 (length (now (a .bytes))) (omega arith) (c .before .before .before .before .pre .0), c .before .before .before .before .pre .1)
+    omega (arith, field-inside (a .at) (a .step) (c .before .loop .i) (length (now (a .list))) 4 (length (now (a .bytes))) (omega arith) (c .before .before .before .before .pre), c .before .before .before .before .good .0 .0)
 
 word-requires : tie.Need-word-requires Inv-loop μ-loop
 word-requires c κs =
     let a = c .before .before .before .before .args in
-    (field-inside (a .at) (a .step) (c .before .loop .i) (length (now (a .list))) 4 (length (now (a .bytes))) (omega arith) (c .before .before .before .before .pre .0), c .before .before .before .before .pre .1)
+    field-inside (a .at) (a .step) (c .before .loop .i) (length (now (a .list))) 4 (length (now (a .bytes))) (omega arith) (c .before .before .before .before .pre)
 
 mul-list : tie.Need-mul-list Inv-loop μ-loop
 mul-list c = search needs

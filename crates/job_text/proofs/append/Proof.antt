@@ -30,16 +30,16 @@ shared-slice-read-text : tie.Need-shared-slice-read-text Inv-loop μ-loop
 shared-slice-read-text c = search needs
 
 add-text : tie.Need-add-text Inv-loop μ-loop
-add-text c = omega (arith, c .before .before .before .pre)
+add-text c = omega (arith, c .before .before .before .pre, c .before .before .before .good .0 .0)
 
 slice-write-text : tie.Need-slice-write-text Inv-loop μ-loop
 slice-write-text c =
     let a = c .before .before .before .args in
     let l = c .before .before .loop in
-    omega (arith, c .before .before .before .pre, pasted-long (a .text .now) (a .at) (a .part .now) (l .i) (l .text) (l .inv .1) (l .inv .0) (c .before .before .before .pre .0))
+    omega (arith, c .before .before .before .pre, pasted-long (a .text .now) (a .at) (a .part .now) (l .i) (l .text) (l .inv .1) (l .inv .0) (c .before .before .before .pre))
 
 add-i : tie.Need-add-i Inv-loop μ-loop
-add-i c = omega (arith, c .before .before .before .pre, c .before .before .loop .inv .0)
+add-i c = search needs
 
 loop-less : tie.Need-loop-less Inv-loop μ-loop
 loop-less c = search needs
@@ -53,20 +53,20 @@ loop-again c =
     )
 
 add-result : tie.Need-add-result Inv-loop μ-loop
-add-result c = omega (arith, c .before .before .pre, c .before .loop .inv .0)
+add-result c = omega (arith, c .before .before .pre, c .before .loop .inv .0, c .before .before .good .0 .0)
 
 same-length : tie.Need-same-length Inv-loop μ-loop
 same-length c =
     let a = c .before .before .args in
     let l = c .before .loop in
-    pasted-long (a .text .now) (a .at) (a .part .now) (l .i) (l .text) (l .inv .1) (l .inv .0) (c .before .before .pre .0)
+    pasted-long (a .text .now) (a .at) (a .part .now) (l .i) (l .text) (l .inv .1) (l .inv .0) (c .before .before .pre)
 
 returns : tie.Need-returns Inv-loop μ-loop
 returns c =
     let a = c .before .before .args in
     let l = c .before .loop in
     let all : l .i ≡ length (a .part .now) = le-antisymm (l .inv .0) (c .loop-test .left) in
-    rw (l .inv .1, all) (pasted-grown (a .text .now) (a .at) (a .part .now) (c .before .before .pre .0))
+    rw (l .inv .1, all) (pasted-grown (a .text .now) (a .at) (a .part .now) (c .before .before .pre))
 
 pub append-spec : {M : Type 1} → statement M
 append-spec =

@@ -16,7 +16,7 @@ append-requires : tie.Need-append-requires
 append-requires c κs =
     let number = c .before .before .before .before .append-decimal .ensures in
     let q = c .before .before .before .before .before .before .before .pre in
-    (omega (arith, number .next, length-decimal (c .before .before .before .before .before .before .before .args .n), number .same-room, q .0), omega (arith, number .same-room, q .1))
+    omega (arith, number .next, length-decimal (c .before .before .before .before .before .before .before .args .n), number .same-room, q)
 
 same-length : tie.Need-same-length
 same-length c = search needs

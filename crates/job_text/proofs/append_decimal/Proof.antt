@@ -20,7 +20,7 @@ append-requires c κs =
     let d = c .before .before .decimal in
     let q = c .before .before .before .before .before .pre in
     let few = fewest-few 10 1 20 _ _ (omega arith) (omega arith) (omega (arith, c .before .before .before .before .before .fits .n)) (d .ensures .1 .0) in
-    (omega (arith, few, d .ensures .0 .1, q .0), q .1)
+    omega (arith, few, d .ensures .0 .1, q)
 
 same-length : tie.Need-same-length
 same-length c = search needs

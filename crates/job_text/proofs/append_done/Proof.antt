@@ -22,7 +22,7 @@ append-count-requires-2 c κs =
     let word = c .before .before .before .before .before .before .before .append .ensures in
     let pushes = c .before .before .before .append-count .ensures in
     let q = c .before .before .before .before .before .before .before .before .before .before .before .pre in
-    (omega (arith, word .next, pushes .next, word .same-room, pushes .same-room, length-count (c .before .before .before .before .before .before .before .before .before .before .before .args .pushes), q .0), omega (arith, word .same-room, pushes .same-room, q .1))
+    omega (arith, word .next, pushes .next, word .same-room, pushes .same-room, length-count (c .before .before .before .before .before .before .before .before .before .before .before .args .pushes), q)
 
 append-bits-requires : tie.Need-append-bits-requires
 append-bits-requires c κs =
@@ -30,7 +30,7 @@ append-bits-requires c κs =
     let pushes = c .before .before .before .before .before .before .before .append-count .ensures in
     let visited = c .before .before .before .append-count2 .ensures in
     let q = c .before .before .before .before .before .before .before .before .before .before .before .before .before .before .before .pre in
-    (omega (arith, word .next, pushes .next, visited .next, word .same-room, pushes .same-room, visited .same-room, length-count (c .before .before .before .before .before .before .before .before .before .before .before .before .before .before .before .args .pushes), length-count (c .before .before .before .before .before .before .before .before .before .before .before .before .before .before .before .args .visited), q .0), omega (arith, word .same-room, pushes .same-room, visited .same-room, q .1))
+    omega (arith, word .next, pushes .next, visited .next, word .same-room, pushes .same-room, visited .same-room, length-count (c .before .before .before .before .before .before .before .before .before .before .before .before .before .before .before .args .pushes), length-count (c .before .before .before .before .before .before .before .before .before .before .before .before .before .before .before .args .visited), q)
 
 slice-aggregate-append-2 : tie.Need-slice-aggregate-append-2
 slice-aggregate-append-2 c = search needs
@@ -42,7 +42,7 @@ append-requires-2 c κs =
     let visited = c .before .before .before .before .before .before .before .before .append-count2 .ensures in
     let norm = c .before .before .before .before .append-bits .ensures in
     let q = c .before .before .before .before .before .before .before .before .before .before .before .before .before .before .before .before .before .before .before .before .pre in
-    (omega (arith, word .next, pushes .next, visited .next, norm .next, word .same-room, pushes .same-room, visited .same-room, norm .same-room, length-count (c .before .before .before .before .before .before .before .before .before .before .before .before .before .before .before .before .before .before .before .before .args .pushes), length-count (c .before .before .before .before .before .before .before .before .before .before .before .before .before .before .before .before .before .before .before .before .args .visited), length-bits (c .before .before .before .before .before .before .before .before .before .before .before .before .before .before .before .before .before .before .before .before .args .norm), q .0), omega (arith, word .same-room, pushes .same-room, visited .same-room, norm .same-room, q .1))
+    omega (arith, word .next, pushes .next, visited .next, norm .next, word .same-room, pushes .same-room, visited .same-room, norm .same-room, length-count (c .before .before .before .before .before .before .before .before .before .before .before .before .before .before .before .before .before .before .before .before .args .pushes), length-count (c .before .before .before .before .before .before .before .before .before .before .before .before .before .before .before .before .before .before .before .before .args .visited), length-bits (c .before .before .before .before .before .before .before .before .before .before .before .before .before .before .before .before .before .before .before .before .args .norm), q)
 
 same-length : tie.Need-same-length
 same-length c = search needs

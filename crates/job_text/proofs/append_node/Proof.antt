@@ -15,7 +15,7 @@ append-bits-requires : tie.Need-append-bits-requires
 append-bits-requires c κs =
     let number = c .before .before .before .append-count .ensures in
     let q = c .before .before .before .before .before .before .pre in
-    (omega (arith, number .next, number .same-room, length-count (c .before .before .before .before .before .before .args .v), q .0), omega (arith, number .same-room, q .1))
+    omega (arith, number .next, number .same-room, length-count (c .before .before .before .before .before .before .args .v), q)
 
 slice-aggregate-append : tie.Need-slice-aggregate-append
 slice-aggregate-append c = search needs
@@ -25,7 +25,7 @@ append-requires c κs =
     let number = c .before .before .before .before .before .before .before .before .append-count .ensures in
     let score = c .before .before .before .before .append-bits .ensures in
     let q = c .before .before .before .before .before .before .before .before .before .before .before .pre in
-    (omega (arith, number .next, score .next, number .same-room, score .same-room, length-count (c .before .before .before .before .before .before .before .before .before .before .before .args .v), length-bits (c .before .before .before .before .before .before .before .before .before .before .before .args .estimate), q .0), omega (arith, number .same-room, score .same-room, q .1))
+    omega (arith, number .next, score .next, number .same-room, score .same-room, length-count (c .before .before .before .before .before .before .before .before .before .before .before .args .v), length-bits (c .before .before .before .before .before .before .before .before .before .before .before .args .estimate), q)
 
 append-bits-requires-2 : tie.Need-append-bits-requires-2
 append-bits-requires-2 c κs =
@@ -33,7 +33,7 @@ append-bits-requires-2 c κs =
     let score = c .before .before .before .before .before .before .before .before .append-bits .ensures in
     let gap = c .before .before .before .append .ensures in
     let q = c .before .before .before .before .before .before .before .before .before .before .before .before .before .before .before .pre in
-    (omega (arith, number .next, score .next, gap .next, number .same-room, score .same-room, gap .same-room, length-count (c .before .before .before .before .before .before .before .before .before .before .before .before .before .before .before .args .v), length-bits (c .before .before .before .before .before .before .before .before .before .before .before .before .before .before .before .args .estimate), q .0), omega (arith, number .same-room, score .same-room, gap .same-room, q .1))
+    omega (arith, number .next, score .next, gap .next, number .same-room, score .same-room, gap .same-room, length-count (c .before .before .before .before .before .before .before .before .before .before .before .before .before .before .before .args .v), length-bits (c .before .before .before .before .before .before .before .before .before .before .before .before .before .before .before .args .estimate), q)
 
 slice-aggregate-append-2 : tie.Need-slice-aggregate-append-2
 slice-aggregate-append-2 c = search needs
@@ -45,7 +45,7 @@ append-requires-2 c κs =
     let gap = c .before .before .before .before .before .before .before .before .append .ensures in
     let rest = c .before .before .before .before .append-bits2 .ensures in
     let q = c .before .before .before .before .before .before .before .before .before .before .before .before .before .before .before .before .before .before .before .before .pre in
-    (omega (arith, number .next, score .next, gap .next, rest .next, number .same-room, score .same-room, gap .same-room, rest .same-room, length-count (c .before .before .before .before .before .before .before .before .before .before .before .before .before .before .before .before .before .before .before .before .args .v), length-bits (c .before .before .before .before .before .before .before .before .before .before .before .before .before .before .before .before .before .before .before .before .args .estimate), length-bits (c .before .before .before .before .before .before .before .before .before .before .before .before .before .before .before .before .before .before .before .before .args .residual), q .0), omega (arith, number .same-room, score .same-room, gap .same-room, rest .same-room, q .1))
+    omega (arith, number .next, score .next, gap .next, rest .next, number .same-room, score .same-room, gap .same-room, rest .same-room, length-count (c .before .before .before .before .before .before .before .before .before .before .before .before .before .before .before .before .before .before .before .before .args .v), length-bits (c .before .before .before .before .before .before .before .before .before .before .before .before .before .before .before .before .before .before .before .before .args .estimate), length-bits (c .before .before .before .before .before .before .before .before .before .before .before .before .before .before .before .before .before .before .before .before .args .residual), q)
 
 same-length : tie.Need-same-length
 same-length c = search needs

@@ -45,7 +45,7 @@ append-node-requires : tie.Need-append-node-requires Inv-loop μ-loop
 append-node-requires c κs =
     let i = c .before .before .before .before .loop .inv in
     let q = c .before .before .before .before .before .before .before .before .pre in
-    (omega (arith, i .near, i .lines .same-room, q .1, c .before .before .before .loop-test .taken), omega (arith, i .lines .same-room, q .2))
+    omega (arith, i .near, i .lines .same-room, q .1, c .before .before .before .loop-test .taken)
 
 add-v : tie.Need-add-v Inv-loop μ-loop
 add-v c = search needs

@@ -24,7 +24,7 @@ append-requires-2 c κs =
     let first = c .before .before .before .before .before .before .before .before .append .ensures in
     let number = c .before .before .before .before .append-decimal .ensures in
     let q = c .before .before .before .before .before .before .before .before .before .before .before .before .pre in
-    (omega (arith, first .next, number .next, length-decimal (c .before .before .before .before .before .before .before .before .before .before .before .before .args .number), first .same-room, number .same-room, q .0), omega (arith, first .same-room, number .same-room, q .1))
+    omega (arith, first .next, number .next, length-decimal (c .before .before .before .before .before .before .before .before .before .before .before .before .args .number), first .same-room, number .same-room, q)
 
 same-length : tie.Need-same-length
 same-length c = search needs

@@ -11,19 +11,19 @@ read-words-requires : tie.Need-read-words-requires
 read-words-requires c κs =
     let q = c .before .before .before .before .before .before .before .pre in
     let s = shape (c .before .before .before .before .before .before .before .args .bytes .now) (c .before .before .before .before .before .before .before .pre .0 .0) in
-    (omega (arith, s .long, q .1 .0), omega (arith, s .long, s .few-links, s .few-sources))
+    omega (arith, s .long, q .1 .0)
 
 read-words-requires-2 : tie.Need-read-words-requires-2
 read-words-requires-2 c κs =
     let q = c .before .before .before .before .before .before .before .before .before .before .before .pre in
     let s = shape (c .before .before .before .before .before .before .before .before .before .before .before .args .bytes .now) (c .before .before .before .before .before .before .before .before .before .before .before .pre .0 .0) in
-    (omega (arith, s .long, q .0 .1 .to-long, q .1 .0), omega (arith, s .long, s .few-links, s .few-sources))
+    omega (arith, s .long, q .0 .1 .to-long, q .1 .0)
 
 read-floats-requires : tie.Need-read-floats-requires
 read-floats-requires c κs =
     let q = c .before .before .before .before .before .before .before .before .before .before .before .before .before .before .before .pre in
     let s = shape (c .before .before .before .before .before .before .before .before .before .before .before .before .before .before .before .args .bytes .now) (c .before .before .before .before .before .before .before .before .before .before .before .before .before .before .before .pre .0 .0) in
-    (omega (arith, s .long, q .0 .1 .weight-long, q .1 .0), omega (arith, s .long, s .few-links, s .few-sources))
+    omega (arith, s .long, q .0 .1 .weight-long, q .1 .0)
 
 mul-read-words : tie.Need-mul-read-words
 mul-read-words c = search needs
@@ -37,17 +37,17 @@ read-words-requires-3 : tie.Need-read-words-requires-3
 read-words-requires-3 c κs =
     let q = c .before .before .before .before .before .before .before .before .before .before .before .before .before .before .before .before .before .before .before .pre in
     let s = shape (c .before .before .before .before .before .before .before .before .before .before .before .before .before .before .before .before .before .before .before .args .bytes .now) (c .before .before .before .before .before .before .before .before .before .before .before .before .before .before .before .before .before .before .before .pre .0 .0) in
-    (omega (arith, s .long, c .before .before .before .before .before .before .before .before .before .before .before .read-words .kept .1 .1 .1 .0, q .1 .0, q .1 .1), omega (arith, s .long, s .few-links, s .few-sources))
+    omega (arith, s .long, c .before .before .before .before .before .before .before .before .before .before .before .read-words .kept .1 .1 .1 .0, q .1 .0, q .1 .1)
 
 word-requires : tie.Need-word-requires
 word-requires c κs =
     let s = shape (c .before .before .before .before .before .before .before .before .before .before .before .before .before .before .before .before .before .before .before .before .before .before .args .bytes .now) (c .before .before .before .before .before .before .before .before .before .before .before .before .before .before .before .before .before .before .before .before .before .before .pre .0 .0) in
-    (omega (arith, s .long), omega (arith, s .long, s .few-links, s .few-sources))
+    omega (arith, s .long)
 
 settings-in-requires : tie.Need-settings-in-requires
 settings-in-requires c κs =
     let s = shape (c .before .before .before .before .before .before .before .before .before .before .before .before .before .before .before .before .before .before .before .before .before .before .before .before .before .before .before .args .bytes .now) (c .before .before .before .before .before .before .before .before .before .before .before .before .before .before .before .before .before .before .before .before .before .before .before .before .before .before .before .pre .0 .0) in
-    (omega (arith, s .long), omega (arith, s .long, s .few-links, s .few-sources))
+    omega (arith, s .long)
 
 solve-links-requires : tie.Need-solve-links-requires
 solve-links-requires c κs =

@@ -18,7 +18,7 @@ returns : tie.Need-returns
 returns c = (misshapen-writes (c .before .before .before .before .before .args .bytes .now) (sym (c .before .before .before .is-shaped .ensures) ∙ not-true _ (c .before .before .if1 .taken)) (c .append-refused .ensures), grown-counts (c .append-refused .ensures))
 
 run-shaped-requires : tie.Need-run-shaped-requires
-run-shaped-requires c κs = (sym (c .before .before .is-shaped .ensures) ∙ not-false _ (c .before .if1 .left), record { enough = omega arith; few = omega arith })
+run-shaped-requires c κs = (sym (c .before .before .is-shaped .ensures) ∙ not-false _ (c .before .if1 .left), omega arith)
 
 returns-2 : tie.Need-returns-2
 returns-2 c = (shaped-writes (c .before .before .before .before .before .args .bytes .now) (sym (c .before .before .before .is-shaped .ensures) ∙ not-false _ (c .before .before .if1 .left)) (c .run-shaped .ensures), grown-counts (c .run-shaped .ensures .grown))

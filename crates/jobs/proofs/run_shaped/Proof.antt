@@ -14,7 +14,7 @@ use Rattle.jobs.proofs.run_shaped.Tie as tie
 word-requires : tie.Need-word-requires
 word-requires c κs =
     let s = shape (c .before .before .args .bytes .now) (c .before .before .pre .0) in
-    (omega (arith, s .long), omega (arith, s .long, s .few-links, s .few-sources))
+    omega (arith, s .long)
 
 cast-links : tie.Need-cast-links
 cast-links c = search needs
@@ -22,7 +22,7 @@ cast-links c = search needs
 word-requires-2 : tie.Need-word-requires-2
 word-requires-2 c κs =
     let s = shape (c .before .before .before .args .bytes .now) (c .before .before .before .pre .0) in
-    (omega (arith, s .long), omega (arith, s .long, s .few-links, s .few-sources))
+    omega (arith, s .long)
 
 cast-count : tie.Need-cast-count
 cast-count c = search needs

@@ -7,7 +7,7 @@ use Rattle.jobs.proofs.tell.Statement.{statement}
 use Rattle.jobs.proofs.tell.Tie as tie
 
 append-refused-requires : tie.Need-append-refused-requires
-append-refused-requires c κs = (omega (arith, c .before .before .before .before .before .before .pre .2 .enough), c .before .before .before .before .before .before .pre .2 .few)
+append-refused-requires c κs = omega (arith, c .before .before .before .before .before .before .pre .2)
 
 same-length : tie.Need-same-length
 same-length c = search needs
@@ -16,13 +16,13 @@ returns : tie.Need-returns
 returns c = text-refused _ _ (c .before .before .before .before .if1 .taken) (c .before .before .append-refused .ensures)
 
 append-done-requires : tie.Need-append-done-requires
-append-done-requires c κs = (omega (arith, c .before .before .before .before .before .before .pre .2 .enough), c .before .before .before .before .before .before .pre .2 .few)
+append-done-requires c κs = omega (arith, c .before .before .before .before .before .before .pre .2)
 
 append-nodes-requires : tie.Need-append-nodes-requires
 append-nodes-requires c κs =
     let q = c .before .before .before .before .before .before .before .before .before .before .pre in
     let done = c .before .before .before .append-done .ensures in
-    (q .1, omega (arith, done .1, done .0 .same-room, q .0, q .2 .enough), omega (arith, done .0 .same-room, q .2 .few))
+    (q .1, omega (arith, done .1, done .0 .same-room, q .0, q .2))
 
 same-length-2 : tie.Need-same-length-2
 same-length-2 c = search needs
