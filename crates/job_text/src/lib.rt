@@ -3,7 +3,6 @@ ghost use mathlib.Core.Path.{_≡_};
 ghost use Prim.Native.Nat.{_+_, _*_, _≤_, _<_};
 ghost use mathlib.Core.List.{_++_};
 ghost use lib.ListN.{length};
-ghost use lib.Ieee.{binary64, toBits};
 ghost use Rattle.io.specs.Digits.{glyph, digits};
 ghost use Rattle.job_text.specs.Text.{decimal, bits, space, refusedLine, doneLine, nodeLine, nodeLines, Grown};
 
@@ -28,16 +27,6 @@ pub fn append_decimal(text: &mut [u8], at: usize, n: u64) -> usize
     let mut digits = [0u8; 20];
     let k = io::decimal(n, &mut digits);
     append(text, at, &digits[..k])
-}
-
-// The bits of a float, of which a NaN has one pattern here.
-fn bits_of(x: f64) -> u64
-    ensures { λ r. ⌜ r ≡ toBits binary64 x ⌝ }
-{
-    if x != x {
-        return 0x7ff8_0000_0000_0000;
-    }
-    f64::to_bits(x)
 }
 
 // The ASCII code of a hex digit.
@@ -67,7 +56,7 @@ pub fn append_bits(text: &mut [u8], at: usize, x: f64) -> usize
     ensures { λ r. ⌜ Grown at (bits x) (now (text .entry)) r (now (text .exit)) ⌝ }
 {
     let mut digits = [0u8; 16];
-    spell(bits_of(x), &mut digits);
+    spell(numbers::bits_of(x), &mut digits);
     append(text, at, &digits)
 }
 

@@ -1,12 +1,12 @@
--- The laws that the functions' proofs share, and the theorems on the square root.
-pub mod Squares
-pub mod Digits
-pub mod Halves
-pub mod Rounding
-pub mod Scale
-pub mod Patterns
+-- The laws that the functions' proofs share, and the theorems on the square root, which are for whoever builds on it.
+mod Squares
+mod Digits
+mod Halves
+mod Rounding
+mod Scale
+mod Patterns
 pub mod Unique
-pub mod Units
-pub mod Means
+mod Units
+mod Means
 pub mod Closest
 pub mod Examples

@@ -6,7 +6,7 @@ use native.Mathlib.Nat.{mul-pos, mul-assoc, mul-right-comm, zero-mul, lt-irrefl,
 use native.Mathlib.Omega.{arith}
 use lib.Dec.{T, leb, ltb, eqb}
 use lib.Pow.{pow-pos}
-use lib.Ieee.{Float, nan, inf, fin, binary64, up, down, odd, ofFields, ofBits, nanBits, isNan, ne}
+use lib.Ieee.{Float, nan, inf, fin, binary64, up, down, odd, ofFields, ofBits, nanBits, isNan}
 use lib.Ieee.Bits.{is-false, nanBits-above, nanBits-is}
 use lib.Ieee.Fits.{down-pos}
 use lib.Ieee.Exact.{HasValue, odd-sign}
@@ -141,10 +141,3 @@ infinite b l u n z =
 -- a pattern below the infinity's is no NaN's
 pub no-nan-bits : (r : ℕ) → r < 2047 * 2 ^ 52 → T (not (nanBits binary64 r))
 no-nan-bits r h = subst (λ (t : Bool). T (not t)) (sym (nanBits-above binary64 r ∙ le-ltb (2047 * 2 ^ 52) (r % 2 ^ 63) (omega arith))) tt
-
--- what equals itself is no NaN
-pub no-nan : (x : Float) → ne x x ≡ false → T (not (isNan x))
-unfolding ne isNan
-no-nan nan h = absurd (true≢false h)
-no-nan (inf s) h = tt
-no-nan (fin s m e) h = tt

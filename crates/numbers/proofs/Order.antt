@@ -2,14 +2,14 @@
 -- The idea: of two floats that are no NaN each comparison is that of two natural numbers, `side x y` and `side y x`. Assumes nothing.
 use mathlib.Core.Path.{_≡_, refl, sym, ap, ap₂, _∙_, subst}
 use mathlib.Core.Logic.{_⊎_, inl, inr}
-use mathlib.Core.Bool.{Bool, true, false, not, _&&_, _||_, cond, and-true, and-or-distrib-left}
+use mathlib.Core.Bool.{Bool, true, false, not, _&&_, _||_, cond, and-true, and-or-distrib-left, true≢false}
 use Prim.Native.Nat.{ℕ, _+_, _*_, _≤_, _<_}
 use native.Mathlib.Nat.{le-refl, le-trans, le-of-lt, le-of-eq, add-zero, zero-add, add-comm, mul-comm, mul-assoc, mul-left-comm, add-mul, zero-mul, mul-le-mul-right, le-of-mul-le-mul-right}
 use native.Mathlib.Decide.{decLe}
 use native.Mathlib.Omega.{arith}
 use lib.IntN.{ℤ}
 use lib.Dec.{T, leb, ltb, eqb, ltb→lt, lt→ltb, eqb→eq, leb→le, le→leb}
-use lib.Ieee.{Float, nan, inf, fin, up, down, below, level, lt, eq, le, isNan}
+use lib.Ieee.{Float, nan, inf, fin, up, down, below, level, lt, eq, ne, le, isNan}
 use lib.Ieee.Fits.{down-pos, and-i, and-l, and-r, eq→eqb}
 use borrow.Author.Tests.{le-ltb, not-true}
 use Rattle.numbers.proofs.Tests.{to-true, or-cases, or-left, or-right, same-test}
@@ -45,7 +45,7 @@ both-zero a b =
     (λ h. eqb-of (a + b) 0 (omega (arith, eqb→eq a b (and-l (eqb a b) (eqb a 0) h), eqb→eq a 0 (and-r (eqb a b) (eqb a 0) h))))
     (λ h. let z = eqb→eq (a + b) 0 h in and-i (eqb a b) (eqb a 0) (eqb-of a b (omega arith)) (eqb-of a 0 (omega arith)))
 
--- and so is `level`
+-- `level` is an equation of the same sums
 level-is : (s : Bool) (a : ℕ) (t : Bool) (b : ℕ) → level s a t b ≡ eqb (over s a + under t b) (over t b + under s a)
 level-is false a false b = and-true (eqb a b) ∙ simp add-zero
 level-is false a true b = both-zero a b
@@ -162,11 +162,18 @@ side-trans (fin s m e) (fin t n d) (fin r o f) _ _ h k =
 -- ---- the laws
 
 -- what compares is a number, on either side
-pub le-number-left : (x y : Float) → T (le x y) → isNan x ≡ false
+le-number-left : (x y : Float) → T (le x y) → isNan x ≡ false
 le-number-left x y h = not-true (isNan x) (to-true (not (isNan x)) (and-l (not (isNan x)) (not (isNan y)) (le-sides x y h .0)))
 
 pub le-number-right : (x y : Float) → T (le x y) → isNan y ≡ false
 le-number-right x y h = not-true (isNan y) (to-true (not (isNan y)) (and-r (not (isNan x)) (not (isNan y)) (le-sides x y h .0)))
+
+-- and what equals itself
+pub no-nan : (x : Float) → ne x x ≡ false → T (not (isNan x))
+unfolding ne isNan
+no-nan nan h = absurd (true≢false h)
+no-nan (inf s) h = tt
+no-nan (fin s m e) h = tt
 
 -- two numbers
 both-numbers : (x y : Float) → isNan x ≡ false → isNan y ≡ false → T (numbers x y)

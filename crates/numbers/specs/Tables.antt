@@ -1,5 +1,6 @@
--- Lists that are given by a rule: a table of a function, and a list made longer. Assumes nothing.
+-- Lists that are given by a rule, a table of a function and a list made longer; and whether one of a list is of a kind. Assumes nothing.
 use Prim.Native.Nat.{ℕ, zero, suc, _-_}
+use mathlib.Core.Bool.{Bool, false, _||_}
 use mathlib.Core.List.{List, [], _∷_, _++_}
 use mathlib.Core.Path.{_≡_, refl}
 use lib.ListN.{length, replicate}
@@ -12,6 +13,11 @@ tabulate (suc n) f = let h = f zero in h ∷ tabulate n (λ k. f (suc k))
 -- a list, and as many z behind it as make m in all
 unfoldable pub padded : {A : Type 0} → ℕ → A → List A → List A
 padded m z l = l ++ replicate (m - length l) z
+
+-- whether one of a list is of a kind; mathlib's own is shut, so that nothing computes with it
+unfoldable pub any : {A : Type 0} → (A → Bool) → List A → Bool
+any p [] = false
+any p (x ∷ xs) = p x || any p xs
 
 -- ---- examples
 

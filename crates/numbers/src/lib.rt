@@ -1,9 +1,10 @@
-// What the crates above share: notation and laws of numbers and lists, floats by their bits, and lists that are
-// cleared.
+// What the crates above share: notation and laws of numbers and lists, floats by their bits and the bits of floats,
+// and lists that are cleared.
 ghost use mathlib.Core.Path.{_≡_};
 ghost use mathlib.Core.List.{_++_};
 ghost use Prim.Native.Nat.{_-_, _≤_};
 ghost use lib.ListN.{length, take, replicate};
+ghost use lib.Ieee.{binary64, toBits};
 ghost use Rattle.numbers.specs.Numbers.{f64, +0};
 
 // The float of a bit pattern, and the NaN for each pattern of a NaN.
@@ -14,6 +15,16 @@ pub fn float_of(bits: u64) -> f64
         return f64::from_bits(bits);
     }
     0.0 / 0.0
+}
+
+// The bits of a float, of which a NaN has one pattern here.
+pub fn bits_of(x: f64) -> u64
+    ensures { λ r. ⌜ r ≡ toBits binary64 x ⌝ }
+{
+    if x != x {
+        return 0x7ff8_0000_0000_0000;
+    }
+    f64::to_bits(x)
 }
 
 // The numbers from `start` on become 0.
