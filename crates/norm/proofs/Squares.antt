@@ -17,7 +17,7 @@ square-next a = simp (mul-add, add-mul) (omega arith)
 pub square-odd : (r : ℕ) → (r * 2 + 1) * (r * 2 + 1) ≡ 4 * (r * r) + 4 * r + 1
 square-odd r = omega (arith, square-next (r * 2), square-twice r)
 
--- a number is at most another if its square is
+-- a number is below another if its square is
 pub square-back : (a b : ℕ) → a * a < b * b → a < b
 square-back a b h = lt-of-not-le (λ (g : b ≤ a). not-le-of-lt h (mul-le-mul g g))
 

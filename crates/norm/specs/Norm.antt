@@ -3,14 +3,14 @@ use mathlib.Core.Path.{_≡_, refl}
 use mathlib.Core.List.{List, [], _∷_}
 use mathlib.Core.Bool.{true, false}
 use lib.IntN.{pos}
-use lib.Ieee.{Float, fin, binary64, ofBits, add, mul}
-use Rattle.numbers.specs.Numbers.{+0}
+use lib.Ieee.{Float, fin, ofBits, add, mul}
+use Rattle.numbers.specs.Numbers.{+0, _⊕_, _⊗_}
 use Rattle.norm.specs.SquareRoot.{Root}
 
 -- acc, and then the square of each element, added one after the other, each sum and each square rounded
 unfoldable pub addSquares : Float → List Float → Float
 addSquares acc [] = acc
-addSquares acc (v ∷ vs) = addSquares (add binary64 acc (mul binary64 v v)) vs
+addSquares acc (v ∷ vs) = addSquares (acc ⊕ v ⊗ v) vs
 
 -- r is the norm of vs: the root of the squares added from +0
 abbrev pub Norm : List Float → Float → Type 0

@@ -7,21 +7,21 @@ ghost use Rattle.norm.specs.SquareRoot.{Root};
 ghost use Rattle.norm.specs.Norm.{Norm};
 ghost use Rattle.norm.specs.Steps.{WholeRoot, FloorRoot, NearRoot, Normal, Even, Patterned};
 
-// s * 2^h: a significand and an exponent.
-pub struct Scaled {
-    pub s: u64,
-    pub h: u64,
+// A number as a significand and the exponent of a power of two, or of four.
+struct Scaled {
+    significand: u64,
+    exponent: u64,
 }
 
 // The whole part of a root, and what its square leaves of the number.
-pub struct Part {
-    pub root: u64,
-    pub rest: u64,
+struct Part {
+    root: u64,
+    rest: u64,
 }
 
 // One digit more of the root, where the number goes on by the two digits `next`. The digit is
 // worked out without a branch, which no processor could foresee.
-pub fn next_digit(p: Part, next: u64) -> Part
+fn next_digit(p: Part, next: u64) -> Part
     requires { ⌜ (next < 4) × (p .root < 2 ^ 53) × (p .rest ≤ 2 * p .root) ⌝ }
     ensures { λ r. ⌜ WholeRoot (4 * (p .root * p .root + p .rest) + next) (r .root) (r .rest) × (r .root ≤ 2 * p .root + 1) ⌝ }
 {
@@ -34,7 +34,7 @@ pub fn next_digit(p: Part, next: u64) -> Part
 }
 
 // The root of s, digit by digit.
-pub fn whole_root(s: u64) -> Part
+fn whole_root(s: u64) -> Part
     requires { ⌜ s < 2 ^ 54 ⌝ }
     ensures { λ r. ⌜ WholeRoot s (r .root) (r .rest) × (r .root < 2 ^ 27) ⌝ }
 {
@@ -51,7 +51,7 @@ pub fn whole_root(s: u64) -> Part
 
 // The whole part of the root of s * 2^54: the root of s gives its upper half, and a division of what
 // is left gives the lower one, at most one too high.
-pub fn floor_root(s: u64) -> u64
+fn floor_root(s: u64) -> u64
     requires { ⌜ (2 ^ 52 ≤ s) × (s < 2 ^ 54) ⌝ }
     ensures { λ r. ⌜ FloorRoot (s * 2 ^ 54) r ⌝ }
 {
@@ -70,7 +70,7 @@ pub fn floor_root(s: u64) -> u64
 
 // The whole number nearest to the root of s * 2^52. The root's last digit, worth a half, says
 // whether to go up: no number here has a root that ends in exactly one half.
-pub fn near_root(s: u64) -> u64
+fn near_root(s: u64) -> u64
     requires { ⌜ (2 ^ 52 ≤ s) × (s + 2 ≤ 2 ^ 54) ⌝ }
     ensures { λ q. ⌜ NearRoot s q ⌝ }
 {
@@ -79,9 +79,9 @@ pub fn near_root(s: u64) -> u64
 }
 
 // The same number with a significand of 53 digits.
-pub fn normalized(s: u64, h: u64) -> Scaled
+fn normalized(s: u64, h: u64) -> Scaled
     requires { ⌜ (0 < s) × (s < 2 ^ 53) × (52 ≤ h) ⌝ }
-    ensures { λ r. ⌜ Normal s h (r .s) (r .h) ⌝ }
+    ensures { λ r. ⌜ Normal s h (r .significand) (r .exponent) ⌝ }
 {
     let mut t = s;
     let mut g = h;
@@ -89,35 +89,44 @@ pub fn normalized(s: u64, h: u64) -> Scaled
         t = t * 2;
         g = g - 1;
     }
-    Scaled { s: t, h: g }
+    Scaled {
+        significand: t,
+        exponent: g,
+    }
 }
 
 // The same number as a significand times a power of four.
-pub fn evened(s: u64, h: u64) -> Scaled
+fn evened(s: u64, h: u64) -> Scaled
     requires { ⌜ (2 ^ 52 ≤ s) × (s < 2 ^ 53) ⌝ }
-    ensures { λ r. ⌜ Even s h (r .s) (r .h) ⌝ }
+    ensures { λ r. ⌜ Even s h (r .significand) (r .exponent) ⌝ }
 {
     let g = h / 2;
     if h % 2 == 0 {
-        Scaled { s, h: g }
+        Scaled {
+            significand: s,
+            exponent: g,
+        }
     } else {
-        Scaled { s: s * 2, h: g }
+        Scaled {
+            significand: s * 2,
+            exponent: g,
+        }
     }
 }
 
 // The pattern of the root of s * 2^j units of 2^-1074.
-pub fn root_of(s: u64, j: u64) -> u64
+fn root_of(s: u64, j: u64) -> u64
     requires { ⌜ (0 < s) × (s < 2 ^ 53) × (j < 2046) ⌝ }
     ensures { λ r. ⌜ Patterned s j r ⌝ }
 {
     let n = normalized(s, j + 64);
-    let e = evened(n.s, n.h);
-    let q = near_root(e.s);
-    (e.h + 479) * 0x10_0000_0000_0000 + q
+    let e = evened(n.significand, n.exponent);
+    let q = near_root(e.significand);
+    (e.exponent + 479) * 0x10_0000_0000_0000 + q
 }
 
 // The pattern of the root of what the pattern b of a finite number above zero stands for.
-pub fn root_bits(b: u64) -> u64
+fn root_bits(b: u64) -> u64
     requires { ⌜ (0 < b) × (b < 2047 * 2 ^ 52) ⌝ }
     ensures { λ r. ⌜ (r < 2047 * 2 ^ 52) × Root (ofBits binary64 b) (ofBits binary64 r) ⌝ }
 {
@@ -131,7 +140,7 @@ pub fn root_bits(b: u64) -> u64
 }
 
 // A NaN.
-pub fn not_a_number() -> f64
+fn not_a_number() -> f64
     ensures { λ r. ⌜ r ≡ nan ⌝ }
 {
     0.0 / 0.0

@@ -7,8 +7,8 @@ use native.Mathlib.Omega.{arith}
 use borrow.Author.Needs.{needs}
 use lib.ListN.{length, getD, drop}
 use lib.Seq.{drop-cons, drop-length}
-use lib.Ieee.{Float, nan, binary64, add, mul, ofBits}
-use Rattle.numbers.specs.Numbers.{+0}
+use lib.Ieee.{Float, nan, ofBits}
+use Rattle.numbers.specs.Numbers.{+0, _⊕_, _⊗_}
 use Rattle.norm.specs.SquareRoot.{Root}
 use Rattle.norm.specs.Norm.{addSquares}
 use Rattle.norm.proofs.compute_residual_norm.Statement.{statement}
@@ -23,7 +23,7 @@ abbrev μ-loop : tie.MeasureT-loop
 μ-loop residual sum₀ i₀ sum i = length residual - i
 
 -- a turn takes the first of what is left
-turn : (l : List Float) (i : ℕ) (s : Float) → i < length l → addSquares s (drop i l) ≡ addSquares (add binary64 s (mul binary64 (getD l i nan) (getD l i nan))) (drop (i + 1) l)
+turn : (l : List Float) (i : ℕ) (s : Float) → i < length l → addSquares s (drop i l) ≡ addSquares (s ⊕ getD l i nan ⊗ getD l i nan) (drop (i + 1) l)
 unfolding addSquares
 turn l i s h = rw (add-one, drop-cons l i nan)
 
