@@ -8,9 +8,9 @@ use lib.ListN.{set}
 use lib.Ieee.{odd, ofBits, toBits, ofInt, add, sub, mul, div, lt, le}
 use Rattle.numbers.specs.Numbers.{f64, +0}
 use Rattle.numbers.specs.Choice.{if_then_else_}
-use Rattle.numbers.specs.Tables.{tabulate}
+use Rattle.numbers.specs.Tables.{tabulate, any}
 use Rattle.norm.specs.Norm.{addSquares}
-use Rattle.refusals.specs.Refusals.{_or_, _when_, any, unlike, nodes, links, listed, lengths, weights, alphas, settings}
+use Rattle.refusals.specs.Refusals.{_or_, _when_, unlike, nodes, links, listed, lengths, weights, alphas, settings}
 use Rattle.marks.specs.Marks.{howMany}
 use Rattle.graph.specs.Rows.{kept, gives, rowOf, rowsOf, linksOf, sumFrom, degree}
 use Rattle.queue.specs.Waiting.{taken, answer, offered, better, bestFrom, next, usual, adapted}

@@ -10,22 +10,23 @@ use lib.Ieee.{Float}
 use lib.Dec.{leb, ltb}
 use borrow.Author.Tests.{eqb-true, ltb-false, leb-false, not-false}
 use Rattle.numbers.proofs.Tests.{neither}
-use Rattle.refusals.specs.Refusals.{_or_, _when_, any, falls, unlike, nodes, links, listed, lengths, sizes, rows, weights, linkTests}
+use Rattle.numbers.specs.Tables.{any}
+use Rattle.refusals.specs.Refusals.{_or_, _when_, falls, unlike, nodes, links, listed, lengths, sizes, rows, linkTests, rowTests}
 use Rattle.refusals.specs.Calls.{Left, left, call}
 
 -- ---- the first number
 
 -- r, the first, is not 0
-pub or-left : (a b : ℕ) {r : ℕ} → r ≡ a → (r ≡ 0 → ⊥) → r ≡ a or b
+pub or-first : (a b : ℕ) {r : ℕ} → r ≡ a → (r ≡ 0 → ⊥) → r ≡ a or b
 unfolding _or_
-or-left zero b e h = absurd (h e)
-or-left (suc a) b e h = e
+or-first zero b e h = absurd (h e)
+or-first (suc a) b e h = e
 
 -- p, the first, is 0, and r is the second
-pub or-right : (a b : ℕ) {p r : ℕ} → p ≡ a → p ≡ 0 → r ≡ b → r ≡ a or b
+pub or-second : (a b : ℕ) {p r : ℕ} → p ≡ a → p ≡ 0 → r ≡ b → r ≡ a or b
 unfolding _or_
-or-right zero b e h g = g
-or-right (suc a) b e h g = absurd (omega arith)
+or-second zero b e h g = g
+or-second (suc a) b e h g = absurd (omega arith)
 
 -- neither applies where the whole is 0
 pub or-zero : (a b : ℕ) → a or b ≡ 0 → (a ≡ 0) × (b ≡ 0)
@@ -34,7 +35,7 @@ or-zero zero b h = (refl, h)
 or-zero (suc a) b h = absurd (omega arith)
 
 -- a test that does not apply
-pub when-zero : (k : ℕ) (b : Bool) → suc k when b ≡ 0 → b ≡ false
+when-zero : (k : ℕ) (b : Bool) → suc k when b ≡ 0 → b ≡ false
 unfolding _when_
 when-zero k true h = absurd (omega arith)
 when-zero k false h = refl
@@ -122,11 +123,11 @@ pub links-passed : (n m s : ℕ) (ps : List (ℕ × ℕ)) (ws : List Float) {r :
 links-passed n m s ps ws e h = sized n m s ps (or-zero _ _ (sym e ∙ h) .0)
 
 -- a call with rows
-pub rows-passed : (n m s : ℕ) (ps : List (ℕ × ℕ)) (starts columns : List ℕ) (ws : List Float) {r : ℕ}
-    → r ≡ sizes n m s ps or rows n starts columns or weights ws → r ≡ 0 → Sized n m s ps × Fine n starts columns
-rows-passed n m s ps starts columns ws e h =
+pub rows-passed : (n s : ℕ) (ps : List (ℕ × ℕ)) (starts columns : List ℕ) (ws : List Float) {r : ℕ}
+    → r ≡ rowTests n s ps starts columns ws → r ≡ 0 → Sized n (length columns) s ps × Fine n starts columns
+rows-passed n s ps starts columns ws e h =
     let a = or-zero _ _ (sym e ∙ h) in
-    (sized n m s ps (a .0), fine n starts columns (or-zero _ _ (a .1) .0))
+    (sized n (length columns) s ps (a .0), fine n starts columns (or-zero _ _ (a .1) .0))
 
 -- ---- the outcome
 

@@ -5,8 +5,9 @@ use mathlib.Core.Bool.{Bool, true, false, not, _&&_, _||_}
 use mathlib.Core.List.{List, [], _∷_}
 use lib.ListN.{length, getD}
 use lib.Dec.{ltb, leb, eqb}
-use lib.Ieee.{Float, inf, binary64, ofBits, lt, le}
-use Rattle.numbers.specs.Numbers.{+0, one}
+use lib.Ieee.{Float, inf, lt, le}
+use Rattle.numbers.specs.Numbers.{f64, +0, one}
+use Rattle.numbers.specs.Tables.{any}
 use Rattle.refusals.specs.declared.Settings.{Settings}
 
 infixr 20 _or_
@@ -20,11 +21,6 @@ suc a or b = suc a
 unfoldable pub _when_ : ℕ → Bool → ℕ
 k when true = k
 k when false = 0
-
--- whether one of a list is of a kind
-unfoldable pub any : {A : Type 0} → (A → Bool) → List A → Bool
-any p [] = false
-any p (x ∷ xs) = p x || any p xs
 
 -- whether b holds, or the two numbers of one of the pairs differ
 unfoldable pub unlike : Bool → List (ℕ × ℕ) → Bool
@@ -41,7 +37,7 @@ falls (a ∷ b ∷ ss) = ltb b a || falls (b ∷ ss)
 
 -- 1,048,576
 abbrev pub heaviest : Float
-heaviest = ofBits binary64 0x4130_0000_0000_0000
+heaviest = f64 0x4130_0000_0000_0000
 
 -- a number from a to b; a NaN is none, and -0 counts as 0
 abbrev pub within : Float → Float → Float → Bool
@@ -78,7 +74,7 @@ unfoldable pub rows : ℕ → List ℕ → List ℕ → ℕ
 rows n starts columns =
     4 when (not (eqb (getD starts 0 0) 0) || falls starts || not (eqb (getD starts n 0) (length columns)) || any (λ v. leb n v) columns)
 
--- 5: a listed weight is NaN, infinite, below zero or above 1,048,576
+-- 5: a listed weight, kept or not, is NaN, infinite, below zero or above 1,048,576
 unfoldable pub weights : List Float → ℕ
 weights ws = 5 when any wrong ws
 

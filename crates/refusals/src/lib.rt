@@ -3,7 +3,8 @@
 ghost use mathlib.Core.Path.{_≡_};
 ghost use lib.ListN.{length, getD};
 ghost use lib.Dec.{leb};
-ghost use Rattle.refusals.specs.Refusals.{_or_, _when_, nodes, links, listed, rows, weights, alphas, settings, precision, amount, wrong, falls, any, within};
+ghost use Rattle.numbers.specs.Tables.{any};
+ghost use Rattle.refusals.specs.Refusals.{_or_, _when_, nodes, links, listed, rows, weights, alphas, settings, precision, amount, wrong, falls, within};
 
 // The five settings of a solve.
 #[repr(C)]
@@ -23,7 +24,7 @@ pub fn or(a: u32, b: u32) -> u32
 }
 
 // k where b holds, else 0.
-pub fn when(k: u32, b: bool) -> u32
+fn when(k: u32, b: bool) -> u32
     ensures { λ r. ⌜ r ≡ (k when b) ⌝ }
 {
     if b { k } else { 0 }

@@ -9,8 +9,8 @@ use mathlib.Core.List.{List, [], _∷_}
 use borrow.Author.Tests.{eqb-true, eq-eqb, ne-eqb}
 use lib.ListN.{length}
 use lib.Dec.{eqb}
+use Rattle.numbers.specs.Tables.{any}
 use Rattle.numbers.proofs.Choice.{decided}
-use Rattle.refusals.specs.Refusals.{any}
 use Rattle.marks.specs.Marks.{howMany}
 use Rattle.marks.proofs.Total.{how-many-same, how-many-none}
 use Rattle.rules.specs.Pushed.{distinct}

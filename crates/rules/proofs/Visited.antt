@@ -10,8 +10,8 @@ use lib.ListN.{length, getD, set}
 use lib.Seq.{getD-set-same, getD-set-other}
 use lib.Dec.{eqb}
 use Rattle.numbers.specs.Choice.{if_then_else_}
+use Rattle.numbers.specs.Tables.{any}
 use Rattle.refusals.specs.declared.Settings.{Settings}
-use Rattle.refusals.specs.Refusals.{any}
 use Rattle.marks.proofs.Total.{how-many-same}
 use Rattle.queue.specs.Waiting.{out}
 use Rattle.rules.specs.Ways.{Way}

@@ -9,9 +9,8 @@ use lib.Dec.{lit<, lit≤}
 use lib.Ieee.{Float, fin, odd, ofBits, ofInt, add, sub, mul, div, lt, le}
 use Rattle.numbers.specs.Numbers.{f64, +0, one}
 use Rattle.numbers.specs.Choice.{if_then_else_}
-use Rattle.numbers.specs.Tables.{tabulate}
+use Rattle.numbers.specs.Tables.{tabulate, any}
 use Rattle.refusals.specs.declared.Settings.{Settings}
-use Rattle.refusals.specs.Refusals.{any}
 use Rattle.norm.specs.SquareRoot.{Root}
 use Rattle.norm.specs.Norm.{Norm, addSquares}
 use Rattle.norm.proofs.Examples as Roots

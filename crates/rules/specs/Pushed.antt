@@ -3,8 +3,8 @@ use Prim.Native.Nat.{ℕ, zero, suc}
 use mathlib.Core.List.{List, [], _∷_}
 use lib.Dec.{eqb}
 use Rattle.numbers.specs.Choice.{if_then_else_}
+use Rattle.numbers.specs.Tables.{any}
 use Rattle.refusals.specs.declared.Settings.{Settings}
-use Rattle.refusals.specs.Refusals.{any}
 use Rattle.rules.specs.Ways.{Way}
 use Rattle.rules.specs.Rules.{State, Watch, due, skips, turn, onward}
 

@@ -41,7 +41,7 @@ passed : (c : tie.Else1) → let a = c .before .before .before .before .before .
     (rowsLent (now (a .reverse-starts)) (now (a .reverse-columns)) (now (a .reverse-weights)) (now (a .positions))) (now (a .degrees)) (now (a .reverse-degrees))
 unfolding matrixRefusal
 passed c =
-    let p = rows-passed _ _ _ _ _ _ _ (number (c .before)) (c .if1 .left) in
+    let p = rows-passed _ _ _ _ _ _ (number (c .before)) (c .if1 .left) in
     let l = p .0 .long in
     record {
       buffers =

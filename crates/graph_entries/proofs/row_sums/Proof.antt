@@ -23,7 +23,7 @@ number c = c .refuse-rows .ensures
 passed : (c : tie.Else1) → let a = c .before .before .before .before .before .before .args in Rowed (a .n) (now (a .starts)) (now (a .columns)) (now (a .weights)) × (length (now (a .degrees)) ≡ a .n)
 unfolding sumsRefusal
 passed c =
-    let p = rows-passed _ _ _ _ _ _ _ (number (c .before)) (c .if1 .left) in
+    let p = rows-passed _ _ _ _ _ _ (number (c .before)) (c .if1 .left) in
     (rowed-of (p .0 .long .0) (p .0 .long .1 .0) (p .1), p .0 .long .1 .1 .0)
 
 add-unlike : tie.Need-add-unlike

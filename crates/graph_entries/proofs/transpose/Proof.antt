@@ -4,6 +4,7 @@ use denote.Ref.{now}
 use Rattle.refusals.specs.Refusals.{lengths, unlike}
 use Rattle.refusals.specs.Calls.{left}
 use Rattle.refusals.proofs.Laws.{refused, accepted, rows-passed}
+use Rattle.graph.specs.Store.{RowBuffers}
 use Rattle.graph_entries.specs.Outcomes.{rowsLent, transposeRefusal, transposing}
 use Rattle.graph.proofs.Given.{rowed-of}
 use Rattle.graph_entries.proofs.Made.{made}
@@ -19,6 +20,23 @@ number : (c : tie.After-refuse-rows) → let a = c .before .before .before .befo
 unfolding transposeRefusal lengths unlike
 number c = c .refuse-rows .ensures
 
+-- what the tests leave: rows, and buffers to transpose them
+passed : (c : tie.Else1) → let a = c .before .before .before .before .before .before .before .before .before .args in
+    RowBuffers (a .n) (now (a .starts)) (now (a .columns)) (now (a .weights)) (now (a .reverse-starts)) (now (a .reverse-columns)) (now (a .reverse-weights)) (now (a .positions))
+unfolding transposeRefusal
+passed c =
+    let p = rows-passed _ _ _ _ _ _ (number (c .before)) (c .if1 .left) in
+    let l = p .0 .long in
+    record {
+      nodes = p .0 .nodes;
+      entries = p .0 .links;
+      rowed = rowed-of (l .0) (l .1 .0) (p .1);
+      starts-long = l .1 .1 .0;
+      columns-long = l .1 .1 .1 .0;
+      weights-long = l .1 .1 .1 .1 .0;
+      positions-long = l .1 .1 .1 .1 .1 .0;
+    }
+
 add-unlike : tie.Need-add-unlike
 add-unlike c = search needs
 
@@ -33,20 +51,7 @@ unfolding transposing
 returns c = refused _ _ _ _ (number (c .before)) (c .if1 .taken)
 
 reverse-rows-requires : tie.Need-reverse-rows-requires
-unfolding transposeRefusal
-reverse-rows-requires c κs =
-    let p = rows-passed _ _ _ _ _ _ _ (number (c .before .before .before .before .before)) (c .before .before .before .before .if1 .left) in
-    let l = p .0 .long in
-    let rowed = rowed-of (l .0) (l .1 .0) (p .1) in
-    record {
-      nodes = p .0 .nodes;
-      entries = p .0 .links;
-      rowed = rowed;
-      starts-long = l .1 .1 .0;
-      columns-long = l .1 .1 .1 .0;
-      weights-long = l .1 .1 .1 .1 .0;
-      positions-long = l .1 .1 .1 .1 .1 .0;
-    }
+reverse-rows-requires c κs = passed (c .before .before .before .before)
 
 same-length : tie.Need-same-length
 same-length c = search needs

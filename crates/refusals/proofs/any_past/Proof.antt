@@ -6,7 +6,7 @@ use native.Mathlib.Omega.{arith}
 use denote.Ref.{now}
 use lib.Dec.{leb}
 use lib.ListN.{length, drop}
-use Rattle.refusals.specs.Refusals.{any}
+use Rattle.numbers.specs.Tables.{any}
 use Rattle.refusals.proofs.Any.{any-next, any-end}
 use borrow.Author.Needs.{needs}
 use Rattle.refusals.proofs.any_past.Statement.{statement}

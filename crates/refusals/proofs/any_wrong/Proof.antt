@@ -6,7 +6,8 @@ use native.Mathlib.Omega.{arith}
 use denote.Ref.{now}
 use lib.ListN.{length, drop}
 use lib.Ieee.{nan}
-use Rattle.refusals.specs.Refusals.{any, wrong}
+use Rattle.numbers.specs.Tables.{any}
+use Rattle.refusals.specs.Refusals.{wrong}
 use Rattle.refusals.proofs.Any.{any-next, any-end}
 use borrow.Author.Needs.{needs}
 use Rattle.refusals.proofs.any_wrong.Statement.{statement}

@@ -1,6 +1,6 @@
 -- `refusals::refuse_links` meets its contract. Assumes nothing.
 use Rattle.refusals.specs.Refusals.{weights}
-use Rattle.refusals.proofs.Laws.{or-left, or-right}
+use Rattle.refusals.proofs.Laws.{or-first, or-second}
 use borrow.Author.Needs.{needs}
 use Rattle.refusals.proofs.refuse_links.Statement.{statement}
 use Rattle.refusals.proofs.refuse_links.Tie as tie
@@ -9,7 +9,7 @@ refuse-sizes-requires : tie.Need-refuse-sizes-requires
 refuse-sizes-requires c κs = search needs
 
 returns : tie.Need-returns
-returns c = or-left _ _ (c .before .refuse-sizes .ensures) (c .if1 .taken)
+returns c = or-first _ _ (c .before .refuse-sizes .ensures) (c .if1 .taken)
 
 any-wrong-requires : tie.Need-any-wrong-requires
 any-wrong-requires c κs = search needs
@@ -19,7 +19,7 @@ when-requires c κs = search needs
 
 returns-2 : tie.Need-returns-2
 unfolding weights
-returns-2 c = or-right _ _ (c .before .before .before .refuse-sizes .ensures) (c .before .before .if1 .left) (cc)
+returns-2 c = or-second _ _ (c .before .before .before .refuse-sizes .ensures) (c .before .before .if1 .left) (cc)
 
 pub refuse-links-spec : {M : Type 1} → statement M
 refuse-links-spec =

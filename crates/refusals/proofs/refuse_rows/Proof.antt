@@ -1,6 +1,6 @@
 -- `refusals::refuse_rows` meets its contract. Assumes nothing.
 use Rattle.refusals.specs.Refusals.{weights}
-use Rattle.refusals.proofs.Laws.{or-left, or-right}
+use Rattle.refusals.proofs.Laws.{or-first, or-second}
 use borrow.Author.Needs.{needs}
 use Rattle.refusals.proofs.refuse_rows.Statement.{statement}
 use Rattle.refusals.proofs.refuse_rows.Tie as tie
@@ -9,7 +9,7 @@ refuse-sizes-requires : tie.Need-refuse-sizes-requires
 refuse-sizes-requires c κs = search needs
 
 returns : tie.Need-returns
-returns c = or-left _ _ (c .before .refuse-sizes .ensures) (c .if1 .taken)
+returns c = or-first _ _ (c .before .refuse-sizes .ensures) (c .if1 .taken)
 
 refuse-starts-requires : tie.Need-refuse-starts-requires
 refuse-starts-requires c κs = search needs
@@ -25,7 +25,7 @@ or-requires c κs = search needs
 
 returns-2 : tie.Need-returns-2
 unfolding weights
-returns-2 c = or-right _ _ (c .before .before .before .before .before .refuse-sizes .ensures) (c .before .before .before .before .if1 .left) (cc)
+returns-2 c = or-second _ _ (c .before .before .before .before .before .refuse-sizes .ensures) (c .before .before .before .before .if1 .left) (cc)
 
 pub refuse-rows-spec : {M : Type 1} → statement M
 refuse-rows-spec =
