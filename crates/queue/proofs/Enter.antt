@@ -13,7 +13,7 @@ use Rattle.numbers.proofs.Tests.{of-true}
 use Rattle.numbers.proofs.Order.{le-number-right}
 use Rattle.marks.specs.Marks.{marked, WithMark}
 use Rattle.queue.specs.Waiting.{Slot, out, waits, taken, offered}
-use Rattle.queue.specs.Heap.{Entry, entries, filled, waiting, parent, Numbers, held, Heap}
+use Rattle.queue.specs.Heap.{Entry, entries, filled, waiting, parent, Numbers, isWaiting, Heap}
 use Rattle.queue.specs.Promises.{Holds}
 use Rattle.queue.specs.Steps.{OrderedBut, Climbed}
 use Rattle.queue.proofs.Stores.{put-here, put-elsewhere}
@@ -23,14 +23,14 @@ use Rattle.queue.proofs.Filled.{Full, filled-same}
 use Rattle.queue.proofs.Settle.{waiting-length, settles}
 use Rattle.queue.proofs.Offer.{offered-below, offered-held, offered-free}
 
--- a slot that is not held is out, and one that is waits
-not-held : (s : Slot) → held s ≡ false → s ≡ out
-not-held out e = refl
-not-held (waits p) e = absurd (true≢false e)
+-- a slot in which no node waits is out, and one in which a node does has its priority
+not-waiting : (s : Slot) → isWaiting s ≡ false → s ≡ out
+not-waiting out e = refl
+not-waiting (waits p) e = absurd (true≢false e)
 
-is-held : (s : Slot) → held s ≡ true → (p : Float) × (s ≡ waits p)
-is-held out e = absurd (false≢true e)
-is-held (waits p) e = (p, refl)
+is-waiting : (s : Slot) → isWaiting s ≡ true → (p : Float) × (s ≡ waits p)
+is-waiting out e = absurd (false≢true e)
+is-waiting (waits p) e = (p, refl)
 
 module _ (size : ℕ) (ps : List Float) (ns ws : List ℕ) (H : Heap size ps ns ws) (v : ℕ) (hv : v < length ps) where
   -- the queue before
@@ -42,7 +42,7 @@ module _ (size : ℕ) (ps : List Float) (ns ws : List ℕ) (H : Heap size ps ns 
   free m =
       record {
         inside = subst (λ (n : ℕ). v < n) (sym (waiting-length size ps ns)) hv;
-        empty = not-held (getD slots v out) (sym (H .marks-agree v hv) ∙ m);
+        empty = not-waiting (getD slots v out) (sym (H .marks-agree v hv) ∙ m);
       }
 
   pub has-room : marked ws v ≡ false → size < length ps
@@ -61,7 +61,7 @@ module _ (size : ℕ) (ps : List Float) (ns ws : List ℕ) (H : Heap size ps ns 
   stays-held t p m = go (le t p) refl
     where
       go : (b : Bool) → le t p ≡ b → Holds (offered t v p slots) (length ps) (length ws) size ps ns ws
-      go true reach = let s = is-held (getD slots v out) (sym (H .marks-agree v hv) ∙ m) in stays (offered t v p slots) (offered-held t v p slots (s .0) reach (s .1))
+      go true reach = let s = is-waiting (getD slots v out) (sym (H .marks-agree v hv) ∙ m) in stays (offered t v p slots) (offered-held t v p slots (s .0) reach (s .1))
       go false below = stays-below t p below
 
   -- ---- the node enters

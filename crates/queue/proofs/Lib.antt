@@ -1,11 +1,11 @@
--- The laws that the proofs of `queue` share. `Taken`, `Offer`, `Settle` and `Enter` are also for whoever builds on the queue.
+-- The laws that the proofs of `queue` share. `Taken`, `Settle` and `Enter` are also for whoever builds on the queue.
 mod Under
 mod Stores
 mod Exchanging
 mod Climb
 mod Sink
 pub mod Taken
-pub mod Offer
+mod Offer
 mod Filled
 pub mod Settle
 mod Best

@@ -10,7 +10,7 @@ use lib.Seq.{getD-set-same, getD-set-other}
 use lib.Ieee.{Float}
 use Rattle.marks.specs.Marks.{marked, WithMark}
 use Rattle.queue.specs.Waiting.{Slot, out, taken}
-use Rattle.queue.specs.Heap.{Entry, entries, filled, waiting, held, Heap}
+use Rattle.queue.specs.Heap.{Entry, entries, filled, waiting, isWaiting, Heap}
 use Rattle.queue.specs.Promises.{Holds}
 use Rattle.queue.specs.Steps.{OrderedBut, Settled}
 use Rattle.queue.proofs.Exchanging.{numbers-among}
@@ -27,21 +27,21 @@ unfolding waiting
 waiting-length size ps ns = length-filled (length ps) (entries ps ns) size
 
 -- the slot of v becomes s, and its mark whether s waits: the marks go on agreeing with the slots
-marks-follow : (slots : List Slot) (ws ws′ : List ℕ) (v : ℕ) (s : Slot) → WithMark (held s) ws ws′ v
-    → ((u : ℕ) → u < length slots → marked ws u ≡ held (getD slots u out)) → (u : ℕ) → u < length slots → marked ws′ u ≡ held (getD (set slots v s) u out)
+marks-follow : (slots : List Slot) (ws ws′ : List ℕ) (v : ℕ) (s : Slot) → WithMark (isWaiting s) ws ws′ v
+    → ((u : ℕ) → u < length slots → marked ws u ≡ isWaiting (getD slots u out)) → (u : ℕ) → u < length slots → marked ws′ u ≡ isWaiting (getD (set slots v s) u out)
 marks-follow slots ws ws′ v s w agree u h = go (ℕ-discrete u v)
   where
-    go : Dec (u ≡ v) → marked ws′ u ≡ held (getD (set slots v s) u out)
+    go : Dec (u ≡ v) → marked ws′ u ≡ isWaiting (getD (set slots v s) u out)
     go (yes p) =
-        ap (marked ws′) p ∙ w .here ∙ sym (ap held (ap (λ (k : ℕ). getD (set slots v s) k out) p ∙ getD-set-same slots v s out (omega arith)))
-    go (no p) = w .elsewhere u p ∙ agree u h ∙ ap held (sym (getD-set-other slots v u s out p))
+        ap (marked ws′) p ∙ w .here ∙ sym (ap isWaiting (ap (λ (k : ℕ). getD (set slots v s) k out) p ∙ getD-set-same slots v s out (omega arith)))
+    go (no p) = w .elsewhere u p ∙ agree u h ∙ ap isWaiting (sym (getD-set-other slots v u s out p))
 
 -- the entries e₁ fill the queue with the slot of v changed, and settle in the buffers
 module _ {size : ℕ} {ps : List Float} {ns ws : List ℕ} (H : Heap size ps ns ws) (v : ℕ) (s : Slot) {wrong : ℕ → Type 0} {k size′ : ℕ} {e₁ : ℕ → Entry}
     {ps′ : List Float} {ns′ ws′ : List ℕ} where
   pub settles : Settled wrong size′ k e₁ (entries ps′ ns′) → OrderedBut wrong size′ e₁ k → Full (length ps) e₁ size′
       → filled (length ps) e₁ size′ ≡ set (waiting size ps ns) v s → size′ ≤ length ps → length ps′ ≡ length ps → length ns′ ≡ length ns
-      → WithMark (held s) ws ws′ v → Holds (set (waiting size ps ns) v s) (length ps) (length ws) size′ ps′ ns′ ws′
+      → WithMark (isWaiting s) ws ws′ v → Holds (set (waiting size ps ns) v s) (length ps) (length ws) size′ ps′ ns′ ws′
   settles settled order full fills fits same-ps same-ns w =
       record {
         heap =
@@ -55,7 +55,7 @@ module _ {size : ℕ} {ps : List Float} {ns ws : List ℕ} (H : Heap size ps ns 
               count = ap taken same ∙ full;
               marks-agree = λ u h.
                   marks-follow (waiting size ps ns) ws ws′ v s w (λ x l. H .marks-agree x (omega (arith, waiting-length size ps ns))) u (omega (arith, waiting-length size ps ns, same-ps))
-                  ∙ sym (ap (λ (slots : List Slot). held (getD slots u out)) (same ∙ fills));
+                  ∙ sym (ap (λ (slots : List Slot). isWaiting (getD slots u out)) (same ∙ fills));
             };
         same-room = same-ps;
         same-words = w .same-length;

@@ -4,7 +4,7 @@
 --     holds            where f meets the thinned contract, h meets the one by value
 -- The walks open the reference, or lend the local, around the one call. The clauses are carried and never read, so that each is said of any contract.
 -- Assumes `Given`.
-use Rattle.queue.proofs.Logic.{refl, sym, ap, subst, [], _∷_, List, ℕ, Holds, URA, fullShare, named, tyUnit, Val, WT, hasTy, vunit, vptr, SProp, ent, id⊢, sep, GName, Lft, Share, ftrue, fat, flft, fobs, fbor, Heap, Calls, Loops, WpFn, Atoms, Given, Item, ‵, raw, _⊛_, ⋆, _$_, _∵_, !, qed, by, move, keep, drop, use1, split, join, fsplit, fsplit3, fjoin, fjoin3, feqI, feqL, suffices, done, look, look-raw, init, store-raw, stop, hop, from, load, addr, unit-lit, of-opd, and-then, no-more, assigns, land, returns, enter, alloc1, alloc0, params1, pass1, pass0, free0, lft-new, lft-end, Body, FmC, fmOf, owns, Is, shows, mem, cellAt, RefT, MutRef, ptr-vals, mut-tells, only, closes, owned, peeks, nothing, Contract, Triple, calls-at, onEntry, tripleOf, Stays, stay-ref, stay-none, walkOf, goes-ref, goes-none, ends-at, yes, plain}
+use Rattle.queue.proofs.Logic.{refl, sym, ap, subst, [], _∷_, List, ℕ, Passes, URA, fullShare, named, tyUnit, Val, WT, hasTy, vunit, vptr, SProp, ent, id⊢, sep, GName, Lft, Share, ftrue, fat, flft, fobs, fbor, Heap, Calls, Loops, WpFn, Atoms, Given, Item, ‵, raw, _⊛_, ⋆, _$_, _∵_, !, qed, by, move, keep, drop, use1, split, join, fsplit, fsplit3, fjoin, fjoin3, feqI, feqL, suffices, done, look, look-raw, init, store-raw, stop, hop, from, load, addr, unit-lit, of-opd, and-then, no-more, assigns, land, returns, enter, alloc1, alloc0, params1, pass1, pass0, free0, lft-new, lft-end, Body, FmC, fmOf, owns, Is, shows, mem, cellAt, RefT, MutRef, ptr-vals, mut-tells, only, closes, owned, peeks, nothing, Contract, Triple, calls-at, onEntry, tripleOf, Stays, stay-ref, stay-none, walkOf, goes-ref, goes-none, ends-at, yes, plain}
 use mir.Syntax.{Fn, Name, local as lo, valueLocal, memorySlot, tyRef, erased, mut, assign, place, rvOpd, copy, deref, addrOf, call, seq, opdUnit, return}
 use prog.Wp.{Tables}
 use denote.Memory.{pointee}
@@ -123,8 +123,8 @@ module _ {M : Type 1} (𝓤 : URA M) (H : Heap 𝓤) (A : Atoms 𝓤) (W : Given
   abbrev HeldPost : Val → SProp 𝓤
   HeldPost = walkOf 𝓤 H A value kept c .post ((tt, tt, tt, (h, tt), (spelled h ∷ [], tt)), g)
 
-  returns-held : Is Queue h (spelled h ∷ []) → (r : WorkQueue) → ent 𝓤 (⋆ 𝓤 H A (‵ (Queue .own r (spelled r ∷ [])) ∷ raw (c tt (h, tt) .ensures g r (h, tt)) ∷ [])) (HeldPost (spelled r))
-  returns-held was r =
+  exits-held : Is Queue h (spelled h ∷ []) → (r : WorkQueue) → ent 𝓤 (⋆ 𝓤 H A (‵ (Queue .own r (spelled r ∷ [])) ∷ raw (c tt (h, tt) .ensures g r (h, tt)) ∷ [])) (HeldPost (spelled r))
+  exits-held was r =
       qed W (‵ (Queue .own r (spelled r ∷ [])) ∷ raw (c tt (h, tt) .ensures g r (h, tt)) ∷ []) ∵
       suffices ! _ (ends-at 𝓤 H A value kept c W ((tt, tt, tt, (h, tt), (spelled h ∷ [], tt)), g) (spelled r) r (tt, tt) (tt, tt)) $
       nothing ! $ owned ! Queue (Is Queue) (makes 𝓤 H A W) h _ was $ fjoin ! $ join ! $ nothing ! $ join ! $ done !
@@ -152,13 +152,13 @@ module _ {M : Type 1} (𝓤 : URA M) (H : Heap 𝓤) (A : Atoms 𝓤) (W : Given
       calls-at ! fm (Thin 𝓤 H A c) known (to-thin l₂ ν γ) (and-then ! (local ! 2 refl) (no-more !)) (λ v. told ! tt lent (thinned 𝓤 c) (to-thin l₂ ν γ) v (λ _ zs.
       use1 W (‵ (flft (ν ∷ []) fullShare) ⊛ ‵ ftrue) (id⊢ 𝓤 _) $ move ! (1 ∷ []) $ feqL ! (λ unit. move ! (1 ∷ []) $ fsplit ! $
       -- [the record's last value; true; the token; what f ensures; the lender's part; _4; …, with no _2]
-      land ! (from ! (stop !)) (init ! 7 refl (subst (λ (y : Val). Holds (hasTy tyUnit y) × WT y) (sym (ap only unit)) (tt, tt))) $
+      land ! (from ! (stop !)) (init ! 7 refl (subst (λ (y : Val). Passes (hasTy tyUnit y) × WT y) (sym (ap only unit)) (tt, tt))) $
       -- the lifetime is ended, and the local comes back at that record
       move ! (2 ∷ []) $ split ! $ lft-end ! tt $ move ! (0 ∷ 5 ∷ 2 ∷ []) $ local-back ! tt Queue vals tells (ν ∷ []) γ (zs .0) l₂ 0 (λ is.
       use1 W (‵ (fat fullShare queueType l₂ 0 (spelled (zs .0)))) (W .laws .raw-at fullShare queueType l₂ 0 (spelled (zs .0))) $
       -- [_2; what the new record owns; true; true; what f ensures; _4; …, with no _2]
       assigns ! (of-opd ! (local ! 0 refl)) (from ! (stop !)) (init ! 12 refl (typed 𝓤 H A W (zs .0) is)) $
-      returns ! (look ! 12 refl) $ move ! (12 ∷ 13 ∷ []) $ gone ! $ move ! (10 ∷ 11 ∷ []) $ gone ! $ move ! (0 ∷ 9 ∷ []) $ gone ! $ move ! (6 ∷ 7 ∷ []) $ gone ! $ move ! (4 ∷ 5 ∷ []) $ gone ! $ free0 ! $ keep ! (0 ∷ 3 ∷ []) $ by ! (returns-held was (zs .0)))))))))))))
+      returns ! (look ! 12 refl) $ move ! (12 ∷ 13 ∷ []) $ gone ! $ move ! (10 ∷ 11 ∷ []) $ gone ! $ move ! (0 ∷ 9 ∷ []) $ gone ! $ move ! (6 ∷ 7 ∷ []) $ gone ! $ move ! (4 ∷ 5 ∷ []) $ gone ! $ free0 ! $ keep ! (0 ∷ 3 ∷ []) $ by ! (exits-held was (zs .0)))))))))))))
 
 module _ {M : Type 1} (𝓤 : URA M) (H : Heap 𝓤) (A : Atoms 𝓤) (W : Given 𝓤 H A) (c : Clauses 𝓤 value) (𝓣 : Tables 𝓤 H) (k : Name) where
   pub holds : Triple 𝓤 (𝓣 .C k) (Thin 𝓤 H A c) → Meets 𝓤 H A (value .signature) (WpFn 𝓤 H (𝓣 .C) (𝓣 .Λ) (holding k)) (closing 𝓤 H A value c)

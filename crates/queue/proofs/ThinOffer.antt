@@ -4,7 +4,7 @@
 --     holds            where f meets the thinned contract, h meets the one by value
 -- The walks are `ThinAdapt.antt`'s, with the buffers (`Buffers.antt`) passed on.
 -- Assumes `Given`.
-use Rattle.queue.proofs.Logic.{_≡_, refl, sym, ap, subst, true, ℕ, _<_, _^_, [], _∷_, List, Holds, length, Float, binary64, fits, URA, fullShare, named, w32, tyUnit, Val, WT, hasTy, vunit, vint, vfloat, vptr, SProp, ent, id⊢, sep, GName, Lft, Share, fat, flft, fobs, fbor, Heap, Calls, Loops, WpFn, Atoms, Given, Item, ‵, raw, _⊛_, ⋆, _$_, _∵_, !, qed, by, move, keep, drop, use1, split, join, fsplit, fsplit3, fjoin, fjoin3, feqI, feqL, suffices, done, look, look-raw, init, store-raw, stop, hop, from, load, addr, unit-lit, of-opd, and-then, no-more, assigns, land, returns, enter, alloc1, alloc0, params1, pass1, pass0, free0, lft-new, lft-end, Body, FmC, fmOf, RattleType, owns, Is, shows, mem, cellAt, uint-vals, uint-tells, uint-makes, float-vals, float-tells, float-makes, passes, u32, u64, f64, RefT, MutRef, ptr-vals, mut-tells, MutSlice, Room, finally, slice-vals, mut-slice-tells, plain, only, closes, owned, peeks, nothing, Contract, Triple, calls-at, onEntry, tripleOf, Stays, stay-ref, stay-none, walkOf, goes-ref, goes-none, goes-gave-slice, ends-at, yes}
+use Rattle.queue.proofs.Logic.{_≡_, refl, sym, ap, subst, true, ℕ, _<_, _^_, [], _∷_, List, Passes, length, Float, binary64, fits, URA, fullShare, named, w32, tyUnit, Val, WT, hasTy, vunit, vint, vfloat, vptr, SProp, ent, id⊢, sep, GName, Lft, Share, fat, flft, fobs, fbor, Heap, Calls, Loops, WpFn, Atoms, Given, Item, ‵, raw, _⊛_, ⋆, _$_, _∵_, !, qed, by, move, keep, drop, use1, split, join, fsplit, fsplit3, fjoin, fjoin3, feqI, feqL, suffices, done, look, look-raw, init, store-raw, stop, hop, from, load, addr, unit-lit, of-opd, and-then, no-more, assigns, land, returns, enter, alloc1, alloc0, params1, pass1, pass0, free0, lft-new, lft-end, Body, FmC, fmOf, RattleType, owns, Is, shows, mem, cellAt, uint-vals, uint-tells, uint-makes, float-vals, float-tells, float-makes, passes, u32, u64, f64, RefT, MutRef, ptr-vals, mut-tells, MutSlice, Room, finally, slice-vals, mut-slice-tells, plain, only, closes, owned, peeks, nothing, Contract, Triple, calls-at, onEntry, tripleOf, Stays, stay-ref, stay-none, walkOf, goes-ref, goes-none, goes-gave-slice, ends-at, yes}
 use mir.Syntax.{Fn, Name, local as lo, valueLocal, memorySlot, tyRef, tyInt, tyFloat, erased, mut, assign, place, rvOpd, copy, deref, addrOf, call, seq, opdUnit, return}
 use prog.Wp.{Tables}
 use contract.Lifetimes.{Lfts}
@@ -192,7 +192,7 @@ module _ {M : Type 1} (𝓤 : URA M) (H : Heap 𝓤) (A : Atoms 𝓤) (W : Given
         -- [the buffers' tokens and what f ensures; ν's token; the unit; what is said of last values; the lender's part; _15; …, with no _7]
         move ! (2 ∷ []) $ feqL ! (λ unit. move ! (2 ∷ []) $ fsplit ! $ move ! (1 ∷ []) $ last-slice ! (λ e₁. move ! (1 ∷ []) $ last-slice ! (λ e₂. move ! (1 ∷ []) $ last-slice ! (λ e₃.
         -- [marks' last list; …; nodes'; priorities'; the record's last value; the tokens and what f ensures; ν's token; the lender's part; _15; …, with no _7]
-        land ! (from ! (stop !)) (init ! 22 refl (subst (λ (y : Val). Holds (hasTy tyUnit y) × WT y) (sym (ap only unit)) (tt, tt))) $
+        land ! (from ! (stop !)) (init ! 22 refl (subst (λ (y : Val). Passes (hasTy tyUnit y) × WT y) (sym (ap only unit)) (tt, tt))) $
         -- the lifetime is ended, and the local comes back at that record
         move ! (6 ∷ []) $ lft-end ! tt $ move ! (0 ∷ 7 ∷ 5 ∷ []) $ local-back ! tt Queue vals tells (ν ∷ []) γ (zs .0) l₇ 0 (λ is.
         use1 W (‵ (fat fullShare queueType l₇ 0 (spelled (zs .0)))) (W .laws .raw-at fullShare queueType l₇ 0 (spelled (zs .0))) $

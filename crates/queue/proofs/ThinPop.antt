@@ -4,7 +4,7 @@
 --     holds            where f meets the thinned contract, h meets the one by value
 -- The walks are `ThinAdapt.antt`'s, with the buffers (`Buffers.antt`) passed on.
 -- Assumes `Given`.
-use Rattle.queue.proofs.Logic.{_≡_, refl, sym, ap, subst, ℕ, _<_, _^_, [], _∷_, List, Holds, length, Float, fits, URA, fullShare, named, w32, Val, WT, hasTy, vint, vptr, SProp, ent, id⊢, sep, GName, Lft, Share, fat, flft, fobs, fbor, Heap, Calls, Loops, WpFn, Atoms, Given, Item, ‵, raw, _⊛_, ⋆, _$_, _∵_, !, qed, by, move, keep, drop, use1, split, join, fsplit, fsplit3, fjoin, fjoin3, feqI, suffices, done, look, look-raw, init, store-raw, stop, hop, from, load, addr, fld, whole, sub, look-in, agg, rewrite, of-opd, and-then, no-more, assigns, land, returns, enter, alloc1, alloc0, params1, pass1, pass0, free0, lft-new, lft-end, Body, FmC, fmOf, RattleType, owns, Is, shows, mem, cellAt, uint-makes, u32, u64, f64, RefT, MutRef, ptr-vals, mut-tells, MutSlice, Room, finally, slice-vals, mut-slice-tells, plain, only, closes, owned, peeks, nothing, Contract, Triple, calls-at, onEntry, tripleOf, Stays, stay-ref, stay-none, walkOf, goes-ref, goes-none, goes-gave-slice, ends-at, yes}
+use Rattle.queue.proofs.Logic.{_≡_, refl, sym, ap, subst, ℕ, _<_, _^_, [], _∷_, List, Passes, length, Float, fits, URA, fullShare, named, w32, Val, WT, hasTy, vint, vptr, SProp, ent, id⊢, sep, GName, Lft, Share, fat, flft, fobs, fbor, Heap, Calls, Loops, WpFn, Atoms, Given, Item, ‵, raw, _⊛_, ⋆, _$_, _∵_, !, qed, by, move, keep, drop, use1, split, join, fsplit, fsplit3, fjoin, fjoin3, feqI, suffices, done, look, look-raw, init, store-raw, stop, hop, from, load, addr, fld, whole, sub, look-in, agg, rewrite, of-opd, and-then, no-more, assigns, land, returns, enter, alloc1, alloc0, params1, pass1, pass0, free0, lft-new, lft-end, Body, FmC, fmOf, RattleType, owns, Is, shows, mem, cellAt, uint-makes, u32, u64, f64, RefT, MutRef, ptr-vals, mut-tells, MutSlice, Room, finally, slice-vals, mut-slice-tells, plain, only, closes, owned, peeks, nothing, Contract, Triple, calls-at, onEntry, tripleOf, Stays, stay-ref, stay-none, walkOf, goes-ref, goes-none, goes-gave-slice, ends-at, yes}
 use mir.Syntax.{Fn, Name, local as lo, valueLocal, memorySlot, tyRef, tyInt, erased, mut, assign, place, rvOpd, copy, deref, field, addrOf, aggregate, call, seq, return}
 use prog.Wp.{Tables}
 use contract.Lifetimes.{Lfts}
@@ -193,7 +193,7 @@ module _ {M : Type 1} (𝓤 : URA M) (H : Heap 𝓤) (A : Atoms 𝓤) (W : Given
         move ! (3 ∷ []) $ fsplit ! $ move ! (1 ∷ []) $ last-slice ! (λ e₁. move ! (1 ∷ []) $ last-slice ! (λ e₂. move ! (1 ∷ []) $ last-slice ! (λ e₃.
         move ! (7 ∷ []) $ peeks ! u32 (Is u32) (shows 𝓤 H A u32) m (v ∷ []) (λ node.
         -- [the node; marks' last list; …; nodes'; priorities'; the record's last value; the tokens and what f ensures; ν's token; the lender's part; _14; …, with no _5]
-        land ! (from ! (stop !)) (init ! 25 refl (subst (λ (y : Val). Holds (hasTy (tyInt w32) y) × WT y) (sym (ap only (node .0))) (tt, record { fits = node .1 }))) $
+        land ! (from ! (stop !)) (init ! 25 refl (subst (λ (y : Val). Passes (hasTy (tyInt w32) y) × WT y) (sym (ap only (node .0))) (tt, record { fits = node .1 }))) $
         rewrite ! 25 (λ (u : Val). ‵ (fat fullShare (tyInt w32) l₆ 0 u)) (ap only (node .0)) refl $ drop ! $
         -- the lifetime is ended, and the local comes back at that record
         move ! (6 ∷ []) $ lft-end ! tt $ move ! (0 ∷ 7 ∷ 5 ∷ []) $ local-back ! tt Queue vals tells (ν ∷ []) γ (zs .0) l₅ 0 (λ is.

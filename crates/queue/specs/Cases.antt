@@ -1,10 +1,11 @@
--- Examples of the queue's rules, computed.
+-- Examples of the queue's rules and of what its buffers mean, computed.
 use mathlib.Core.Path.{_≡_, refl}
 use mathlib.Core.List.{[], _∷_}
 use lib.Ieee.{Float, nan, ofBits, mul, le, lt}
 use Rattle.numbers.specs.Numbers.{f64, +0, one, _⊗_}
 use Rattle.numbers.specs.Choice.{if_then_else_}
 use Rattle.queue.specs.Waiting.{out, waits, answer, entered, belowThreshold, alreadyIn, offered, best, nobody, better, bestFrom, next, usual, adapted}
+use Rattle.queue.specs.Heap.{entries, filled, waiting}
 
 half : Float
 half = f64 0x3fe0_0000_0000_0000
@@ -47,14 +48,18 @@ empty : next (out ∷ out ∷ []) ≡ nobody
 unfolding next bestFrom
 empty = refl
 
--- a queue of 10,001 raises the threshold, one of 100 leaves it, one of 99 lowers it, and none is lowered from 1e-12
+-- a queue of 10,001 raises the threshold, one of 10,000 and one of 100 leave it, one of 99 lowers it, and none is lowered from 1e-12
 raised : adapted usual 10001 one ≡ one ⊗ f64 0x3ff1_9999_9999_999a
 unfolding adapted usual if_then_else_ ofBits lt
 raised = refl
 
-left : adapted usual 100 one ≡ one
+left-at-upper : adapted usual 10000 one ≡ one
 unfolding adapted usual if_then_else_ ofBits lt
-left = refl
+left-at-upper = refl
+
+left-at-lower : adapted usual 100 one ≡ one
+unfolding adapted usual if_then_else_ ofBits lt
+left-at-lower = refl
 
 lowered : adapted usual 99 one ≡ f64 0x3fec_cccc_cccc_cccd
 unfolding adapted usual if_then_else_ ofBits lt mul
@@ -63,3 +68,13 @@ lowered = refl
 floored : adapted usual 0 (f64 0x3d71_9799_812d_ea11) ≡ f64 0x3d71_9799_812d_ea11
 unfolding adapted usual if_then_else_ ofBits lt
 floored = refl
+
+-- of three places the first two hold an entry: the nodes 2 and 0 wait, each at its priority, and what stands in the third says nothing
+two-wait : waiting 2 (one ∷ half ∷ +0 ∷ []) (2 ∷ 0 ∷ 1 ∷ []) ≡ waits half ∷ out ∷ waits one ∷ []
+unfolding waiting filled
+two-wait = refl
+
+-- of two entries of one node the later stands
+later-stands : filled 2 (entries (one ∷ half ∷ []) (1 ∷ 1 ∷ [])) 2 ≡ out ∷ waits half ∷ []
+unfolding filled
+later-stands = refl

@@ -9,7 +9,7 @@ use lib.Ieee.{Float}
 use borrow.Author.Needs.{needs}
 use Rattle.marks.proofs.Marking.{none-marked}
 use Rattle.queue.specs.Waiting.{Slot, out}
-use Rattle.queue.specs.Heap.{filled, waiting, held}
+use Rattle.queue.specs.Heap.{filled, waiting, isWaiting}
 use Rattle.queue.specs.Promises.{Holds}
 use Rattle.queue.proofs.Taken.{taken-none}
 use Rattle.queue.proofs.start.Statement.{statement}
@@ -34,7 +34,7 @@ empty ps ns ws few paired room =
             ordered = λ k a h. absurd (not-suc-le-zero h);
             count = rw (nobody-waits ps ns) (taken-none (length ps));
             marks-agree = λ v h.
-                none-marked (length ws) v ∙ sym (ap held (ap (λ (l : List Slot). getD l v out) (nobody-waits ps ns) ∙ getD-replicate (length ps) v out out h));
+                none-marked (length ws) v ∙ sym (ap isWaiting (ap (λ (l : List Slot). getD l v out) (nobody-waits ps ns) ∙ getD-replicate (length ps) v out out h));
           };
       same-room = refl;
       same-words = length-replicate (length ws) 0;
