@@ -2,3 +2,4 @@
 pub mod Lent
 pub mod Outcomes
 pub mod Promises
+pub mod Cases

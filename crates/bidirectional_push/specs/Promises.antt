@@ -5,14 +5,14 @@ use mathlib.Core.List.{List}
 use mathlib.Core.Path.{_≡_}
 use lib.ListN.{length, getD}
 use lib.Dec.{ltb}
-use lib.Ieee.{Float, lt}
-use Rattle.numbers.specs.Numbers.{f64, +0, _⊗_}
+use lib.Ieee.{Float}
+use Rattle.numbers.specs.Numbers.{+0}
 use Rattle.numbers.specs.Choice.{if_then_else_}
 use Rattle.refusals.specs.Calls.{Left}
 use Rattle.refusals.specs.declared.Settings.{Settings}
 use Rattle.graph.specs.Rows.{Entry}
 use Rattle.rules.specs.Rules.{at}
-use Rattle.rules.specs.Answers.{combined, Method, neither, backwardAlone, forwardAlone, both, method}
+use Rattle.rules.specs.Answers.{combined, Method, neither, both, byDegrees, method}
 use Rattle.calls.specs.declared.Scored.{Scored}
 use Rattle.calls.specs.Outcomes.{Given}
 use Rattle.bidirectional_push.specs.declared.Uses.{Uses}
@@ -26,13 +26,7 @@ methodFor adaptive n rows source target = if adaptive then method n rows source 
 -- the same, by the degrees of n nodes
 unfoldable pub methodBy : Bool → ℕ → List Float → List Float → ℕ → ℕ → Method
 methodBy adaptive n ins outs source target =
-    let outward = at outs source in
-    let inward = at ins target in
-    let two = f64 0x4000_0000_0000_0000 in
-    if adaptive
-    then (if ltb source n && ltb target n
-    then (if lt (inward ⊗ two) outward then backwardAlone else (if lt (outward ⊗ two) inward then forwardAlone else both)) else neither)
-    else both
+    if adaptive then (if ltb source n && ltb target n then byDegrees (at outs source) (at ins target) else neither) else both
 
 -- the solves that the method uses left the score, and the lent buffers as they are after it
 pub record Joins {B : Type 0} (adaptive : Bool) (g : Given Pairs B) (source target : ℕ) (sf sb : Settings) (x : Left Float B) : Type 0 where

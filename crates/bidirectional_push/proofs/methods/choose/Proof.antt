@@ -11,7 +11,7 @@ use Rattle.numbers.specs.Numbers.{f64, _⊗_}
 use Rattle.numbers.specs.Choice.{if_then_else_}
 use Rattle.numbers.proofs.Tests.{both as all}
 use Rattle.rules.specs.Rules.{at}
-use Rattle.rules.specs.Answers.{backwardAlone, forwardAlone, both}
+use Rattle.rules.specs.Answers.{backwardAlone, forwardAlone, both, byDegrees}
 use Rattle.bidirectional_push.specs.Outcomes.{usesForward, usesBackward}
 use Rattle.bidirectional_push.specs.Promises.{methodBy, Follows}
 use borrow.Author.Needs.{needs}
@@ -45,7 +45,7 @@ shared-slice-read-inward c =
     ltb-true (a .target) n (all (ltb (a .source) n) (ltb (a .target) n) (c .before .before .if2 .taken) .1)
 
 returns : tie.Need-returns
-unfolding methodBy if_then_else_
+unfolding methodBy byDegrees if_then_else_
 returns c =
     let a = c .before .before .before .before .args in
     let inward = at (now (a .in-degrees)) (a .target) in
