@@ -33,7 +33,7 @@ use Rattle.queue.specs.Waiting.{waits, taken, answer, offered, better, bestFrom
 use Rattle.rules.specs.Ways.{forward, backward, effective, transition, shareOf, wayOf, over, overLinks, degreeOf}
 use Rattle.rules.specs.Rules.{each, State, unwatched, watched, blank, queued, gain, absorb, counted, offer, pass, handOut, push}
 use Rattle.rules.specs.Rules.{stops, due, skips, visit, turn, onward, run, inside, watchable, begun, start, enough, solve}
-use Rattle.rules.specs.Answers.{visitedCount, scoreAt, extrapolated, combined, method, answerBy}
+use Rattle.rules.specs.Answers.{visitedCount, scoreAt, extrapolated, combined, byDegrees, method, answerBy}
 use Rattle.rules.specs.Cases.{Outcome}
 use Rattle.rules.proofs.Ends.{run-add}
 
@@ -47,7 +47,7 @@ shown s = outcome (s .pushes) (visitedCount s) (s .estimate) (s .residual)
 const UNFOLDING: &str = "unfolding if_then_else_ tabulate howMany kept gives rowOf rowsOf sumFrom degree into intoFrom transposed taken \
 answer offered better bestFrom next usual adapted effective transition shareOf wayOf over degreeOf each blank queued gain absorb \
 counted offer pass handOut push stops due skips visit turn onward run inside watchable begun start enough solve visitedCount \
-scoreAt extrapolated combined method answerBy addSquares ofBits ofInt add sub mul div lt le odd";
+scoreAt extrapolated combined byDegrees method answerBy addSquares ofBits ofInt add sub mul div lt le odd";
 
 /// A list as antt writes it.
 fn listed(items: impl IntoIterator<Item = String>) -> String {
