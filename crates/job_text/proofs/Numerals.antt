@@ -5,7 +5,7 @@ use native.Mathlib.Numerals.{unary-clauses, add-one}
 use native.Mathlib.Decide.{decLt}
 use native.Mathlib.Omega.{arith, pow-step}
 use mathlib.Core.Bool.{Bool, true, false}
-use mathlib.Core.List.{[], _∷_, _++_}
+use mathlib.Core.List.{List, [], _∷_, _++_}
 use mathlib.Core.Path.{_≡_, refl, ap, _∙_}
 use borrow.Author.Tests.{lt-ltb, le-ltb}
 use lib.Dec.{ltb}
@@ -13,7 +13,7 @@ use lib.ListN.{length, length-append}
 use lib.Ieee.{Float, binary64, toBits}
 use Rattle.numbers.specs.Choice.{if_then_else_}
 use Rattle.io.specs.Digits.{glyph, digits, Fewest}
-use Rattle.job_text.specs.Text.{places, decimal, bits, space}
+use Rattle.job_text.specs.Text.{places, decimal, bits, space, Grown}
 
 pub fewest-few : (b least most n k : ℕ) → 0 < b → least ≤ most → n < b ^ most → Fewest b least n k → k ≤ most
 fewest-few b least most n k p h bound f = go (decLt most k)
@@ -57,14 +57,23 @@ unfolding places
 places-few zero n = omega arith
 places-few (suc most) n = either-few (ltb n 10) (suc most) (places most (n / 10)) (places-few most (n / 10))
 
-pub length-decimal : (n : ℕ) → length (decimal n) ≤ 20
+length-decimal : (n : ℕ) → length (decimal n) ≤ 20
 unfolding decimal
 length-decimal n = rw (length-digits 10 (places 19 n) n) (places-few 19 n)
 
--- with a space behind it
-pub length-count : (n : ℕ) → length (decimal n ++ space) ≤ 21
-length-count n = omega (arith, length-append (decimal n) space, length-decimal n)
-
-pub length-bits : (x : Float) → length (bits x) ≡ 16
+length-bits : (x : Float) → length (bits x) ≡ 16
 unfolding bits
 length-bits x = length-digits 16 16 (toBits binary64 x)
+
+-- ---- where the next part goes, whichever number was put
+
+module _ {at r : ℕ} {text text′ : List ℕ} where
+  pub behind-decimal : (n : ℕ) → Grown at (decimal n) text r text′ → r ≤ at + 20
+  behind-decimal n g = omega (arith, g .next, length-decimal n)
+
+  -- with a space behind it
+  pub behind-count : (n : ℕ) → Grown at (decimal n ++ space) text r text′ → r ≤ at + 21
+  behind-count n g = omega (arith, g .next, length-append (decimal n) space, length-decimal n)
+
+  pub behind-bits : (x : Float) → Grown at (bits x) text r text′ → r ≡ at + 16
+  behind-bits x g = omega (arith, g .next, length-bits x)

@@ -1,6 +1,6 @@
 -- `job_text::append_count` meets its contract: the number and a space, one behind the other. Assumes nothing.
 use native.Mathlib.Omega.{arith}
-use Rattle.job_text.proofs.Numerals.{length-decimal}
+use Rattle.job_text.proofs.Numerals.{behind-decimal}
 use Rattle.job_text.proofs.Growing.{grown-then}
 use borrow.Author.Needs.{needs}
 use Rattle.job_text.proofs.append_count.Statement.{statement}
@@ -16,7 +16,7 @@ append-requires : tie.Need-append-requires
 append-requires c κs =
     let number = c .before .before .before .before .append-decimal .ensures in
     let q = c .before .before .before .before .before .before .before .pre in
-    omega (arith, number .next, length-decimal (c .before .before .before .before .before .before .before .args .n), number .same-room, q)
+    omega (arith, behind-decimal _ number, number .same-room, q)
 
 same-length : tie.Need-same-length
 same-length c = search needs

@@ -2,7 +2,7 @@
 use native.Mathlib.Omega.{arith}
 use mathlib.Core.List.{append-assoc}
 use Rattle.job_text.specs.Text.{decimal, space, doneLine}
-use Rattle.job_text.proofs.Numerals.{length-count, length-bits}
+use Rattle.job_text.proofs.Numerals.{behind-count, behind-bits}
 use Rattle.job_text.proofs.Growing.{grown-then}
 use borrow.Author.Needs.{needs}
 use Rattle.job_text.proofs.append_done.Statement.{statement}
@@ -22,7 +22,7 @@ append-count-requires-2 c κs =
     let word = c .before .before .before .before .before .before .before .append .ensures in
     let pushes = c .before .before .before .append-count .ensures in
     let q = c .before .before .before .before .before .before .before .before .before .before .before .pre in
-    omega (arith, word .next, pushes .next, word .same-room, pushes .same-room, length-count (c .before .before .before .before .before .before .before .before .before .before .before .args .pushes), q)
+    omega (arith, word .next, behind-count _ pushes, word .same-room, pushes .same-room, q)
 
 append-bits-requires : tie.Need-append-bits-requires
 append-bits-requires c κs =
@@ -30,7 +30,7 @@ append-bits-requires c κs =
     let pushes = c .before .before .before .before .before .before .before .append-count .ensures in
     let visited = c .before .before .before .append-count2 .ensures in
     let q = c .before .before .before .before .before .before .before .before .before .before .before .before .before .before .before .pre in
-    omega (arith, word .next, pushes .next, visited .next, word .same-room, pushes .same-room, visited .same-room, length-count (c .before .before .before .before .before .before .before .before .before .before .before .before .before .before .before .args .pushes), length-count (c .before .before .before .before .before .before .before .before .before .before .before .before .before .before .before .args .visited), q)
+    omega (arith, word .next, behind-count _ pushes, behind-count _ visited, word .same-room, pushes .same-room, visited .same-room, q)
 
 slice-aggregate-append-2 : tie.Need-slice-aggregate-append-2
 slice-aggregate-append-2 c = search needs
@@ -42,7 +42,7 @@ append-requires-2 c κs =
     let visited = c .before .before .before .before .before .before .before .before .append-count2 .ensures in
     let norm = c .before .before .before .before .append-bits .ensures in
     let q = c .before .before .before .before .before .before .before .before .before .before .before .before .before .before .before .before .before .before .before .before .pre in
-    omega (arith, word .next, pushes .next, visited .next, norm .next, word .same-room, pushes .same-room, visited .same-room, norm .same-room, length-count (c .before .before .before .before .before .before .before .before .before .before .before .before .before .before .before .before .before .before .before .before .args .pushes), length-count (c .before .before .before .before .before .before .before .before .before .before .before .before .before .before .before .before .before .before .before .before .args .visited), length-bits (c .before .before .before .before .before .before .before .before .before .before .before .before .before .before .before .before .before .before .before .before .args .norm), q)
+    omega (arith, word .next, behind-count _ pushes, behind-count _ visited, behind-bits _ norm, word .same-room, pushes .same-room, visited .same-room, norm .same-room, q)
 
 same-length : tie.Need-same-length
 same-length c = search needs
@@ -57,7 +57,7 @@ returns c =
     let norm = c .before .before .before .before .before .before .before .append-bits .ensures in
     let end = c .before .before .append2 .ensures in (
       rw (append-assoc (decimal (a .pushes)) space _, append-assoc (decimal (a .visited)) space _) at (grown-then word (grown-then pushed (grown-then seen (grown-then norm end)))),
-      omega (arith, word .next, pushed .next, seen .next, norm .next, end .next, length-count (a .pushes), length-count (a .visited), length-bits (a .norm)),
+      omega (arith, word .next, behind-count _ pushed, behind-count _ seen, behind-bits _ norm, end .next),
     )
 
 pub append-done-spec : {M : Type 1} → statement M

@@ -2,7 +2,7 @@
 use native.Mathlib.Omega.{arith}
 use mathlib.Core.List.{append-assoc}
 use Rattle.job_text.specs.Text.{decimal, space, nodeLine}
-use Rattle.job_text.proofs.Numerals.{length-count, length-bits}
+use Rattle.job_text.proofs.Numerals.{behind-count, behind-bits}
 use Rattle.job_text.proofs.Growing.{grown-then}
 use borrow.Author.Needs.{needs}
 use Rattle.job_text.proofs.append_node.Statement.{statement}
@@ -15,7 +15,7 @@ append-bits-requires : tie.Need-append-bits-requires
 append-bits-requires c κs =
     let number = c .before .before .before .append-count .ensures in
     let q = c .before .before .before .before .before .before .pre in
-    omega (arith, number .next, number .same-room, length-count (c .before .before .before .before .before .before .args .v), q)
+    omega (arith, behind-count _ number, number .same-room, q)
 
 slice-aggregate-append : tie.Need-slice-aggregate-append
 slice-aggregate-append c = search needs
@@ -25,7 +25,7 @@ append-requires c κs =
     let number = c .before .before .before .before .before .before .before .before .append-count .ensures in
     let score = c .before .before .before .before .append-bits .ensures in
     let q = c .before .before .before .before .before .before .before .before .before .before .before .pre in
-    omega (arith, number .next, score .next, number .same-room, score .same-room, length-count (c .before .before .before .before .before .before .before .before .before .before .before .args .v), length-bits (c .before .before .before .before .before .before .before .before .before .before .before .args .estimate), q)
+    omega (arith, behind-count _ number, behind-bits _ score, number .same-room, score .same-room, q)
 
 append-bits-requires-2 : tie.Need-append-bits-requires-2
 append-bits-requires-2 c κs =
@@ -33,7 +33,7 @@ append-bits-requires-2 c κs =
     let score = c .before .before .before .before .before .before .before .before .append-bits .ensures in
     let gap = c .before .before .before .append .ensures in
     let q = c .before .before .before .before .before .before .before .before .before .before .before .before .before .before .before .pre in
-    omega (arith, number .next, score .next, gap .next, number .same-room, score .same-room, gap .same-room, length-count (c .before .before .before .before .before .before .before .before .before .before .before .before .before .before .before .args .v), length-bits (c .before .before .before .before .before .before .before .before .before .before .before .before .before .before .before .args .estimate), q)
+    omega (arith, behind-count _ number, behind-bits _ score, gap .next, number .same-room, score .same-room, gap .same-room, q)
 
 slice-aggregate-append-2 : tie.Need-slice-aggregate-append-2
 slice-aggregate-append-2 c = search needs
@@ -45,7 +45,7 @@ append-requires-2 c κs =
     let gap = c .before .before .before .before .before .before .before .before .append .ensures in
     let rest = c .before .before .before .before .append-bits2 .ensures in
     let q = c .before .before .before .before .before .before .before .before .before .before .before .before .before .before .before .before .before .before .before .before .pre in
-    omega (arith, number .next, score .next, gap .next, rest .next, number .same-room, score .same-room, gap .same-room, rest .same-room, length-count (c .before .before .before .before .before .before .before .before .before .before .before .before .before .before .before .before .before .before .before .before .args .v), length-bits (c .before .before .before .before .before .before .before .before .before .before .before .before .before .before .before .before .before .before .before .before .args .estimate), length-bits (c .before .before .before .before .before .before .before .before .before .before .before .before .before .before .before .before .before .before .before .before .args .residual), q)
+    omega (arith, behind-count _ number, behind-bits _ score, gap .next, behind-bits _ rest, number .same-room, score .same-room, gap .same-room, rest .same-room, q)
 
 same-length : tie.Need-same-length
 same-length c = search needs
@@ -60,7 +60,7 @@ returns c =
     let rest = c .before .before .before .before .before .before .before .append-bits2 .ensures in
     let end = c .before .before .append2 .ensures in (
       rw (append-assoc (decimal (a .v)) space _) at (grown-then number (grown-then score (grown-then gap (grown-then rest end)))),
-      omega (arith, number .next, score .next, gap .next, rest .next, end .next, length-count (a .v), length-bits (a .estimate), length-bits (a .residual)),
+      omega (arith, behind-count _ number, behind-bits _ score, gap .next, behind-bits _ rest, end .next),
     )
 
 pub append-node-spec : {M : Type 1} → statement M

@@ -1,7 +1,7 @@
 -- `job_text::append_refused` meets its contract: the word, the number and the line end, one behind the other. Assumes nothing.
 use native.Mathlib.Omega.{arith}
 use Rattle.job_text.specs.Text.{refusedLine}
-use Rattle.job_text.proofs.Numerals.{length-decimal}
+use Rattle.job_text.proofs.Numerals.{behind-decimal}
 use Rattle.job_text.proofs.Growing.{grown-then}
 use borrow.Author.Needs.{needs}
 use Rattle.job_text.proofs.append_refused.Statement.{statement}
@@ -24,7 +24,7 @@ append-requires-2 c κs =
     let first = c .before .before .before .before .before .before .before .before .append .ensures in
     let number = c .before .before .before .before .append-decimal .ensures in
     let q = c .before .before .before .before .before .before .before .before .before .before .before .before .pre in
-    omega (arith, first .next, number .next, length-decimal (c .before .before .before .before .before .before .before .before .before .before .before .before .args .number), first .same-room, number .same-room, q)
+    omega (arith, first .next, behind-decimal _ number, first .same-room, number .same-room, q)
 
 same-length : tie.Need-same-length
 same-length c = search needs
