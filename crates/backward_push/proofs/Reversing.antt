@@ -22,27 +22,27 @@ use Rattle.backward_push.specs.Lent.{backLent, backDone}
 use Rattle.backward_push.specs.Promises.{Reversed}
 
 -- the rows of the direction are the reverse ones
-pub directed-backward : {n : ℕ} {starts columns reverse-starts reverse-columns : List ℕ} {weights reverse-weights ins outs : List Float} → Rowed n starts columns weights
-    → Reversed n starts columns weights reverse-starts reverse-columns reverse-weights ins outs → length reverse-columns ≡ length columns → length reverse-weights ≡ length columns
-    → Directed n true (rowsIn n starts columns weights) reverse-starts columns reverse-columns weights reverse-weights ins outs
+pub directed-backward : {n : ℕ} {starts columns reverse-starts reverse-columns : List ℕ} {weights reverse-weights in-degrees out-degrees : List Float} → Rowed n starts columns weights
+    → Reversed n starts columns weights reverse-starts reverse-columns reverse-weights in-degrees out-degrees → length reverse-columns ≡ length columns → length reverse-weights ≡ length columns
+    → Directed n true (rowsIn n starts columns weights) reverse-starts columns reverse-columns weights reverse-weights in-degrees out-degrees
 unfolding chosen if_then_else_
 directed-backward z t c w = record {
   rowed = held-rowed (t .reversed);
   columns-alike = c;
   weights-alike = w ∙ sym (z .paired);
   rows-are = held-rows (t .reversed);
-  degrees-are = t .ins;
-  outs-long = sums-long z (t .outs);
-  outs-are = sums-are z (t .outs);
+  degrees-are = t .in-degrees-are;
+  out-degrees-long = sums-long z (t .out-degrees-are);
+  out-degrees-are = sums-are z (t .out-degrees-are);
 }
 
 -- what a solve leaves, with the reverse rows and the out-degrees cleared
-pub back-left : (n m : ℕ) (s : State) {r : Counted} {b : SolveLent} {reverse-starts reverse-columns : List ℕ} {reverse-weights outs : List Float}
+pub back-left : (n m : ℕ) (s : State) {r : Counted} {b : SolveLent} {reverse-starts reverse-columns : List ℕ} {reverse-weights out-degrees : List Float}
     → left r b ≡ left (countedIn s) (solveDone n (s .estimate) (s .residual)) → reverse-starts ≡ replicate (n + 1) 0 → reverse-columns ≡ replicate m 0
-    → reverse-weights ≡ replicate m +0 → outs ≡ replicate n +0
-    → left r (backLent reverse-starts reverse-columns reverse-weights outs b) ≡ left (countedIn s) (backDone n m (solveDone n (s .estimate) (s .residual)))
+    → reverse-weights ≡ replicate m +0 → out-degrees ≡ replicate n +0
+    → left r (backLent reverse-starts reverse-columns reverse-weights out-degrees b) ≡ left (countedIn s) (backDone n m (solveDone n (s .estimate) (s .residual)))
 unfolding backDone
-back-left n m s {reverse-starts = rs} {reverse-columns = rc} {reverse-weights = rv} {outs = o} d es ec ew eo =
+back-left n m s {reverse-starts = rs} {reverse-columns = rc} {reverse-weights = rv} {out-degrees = o} d es ec ew eo =
     ap (λ (x : Left Counted SolveLent). left (x .answer) (backLent rs rc rv o (x .lent))) d ∙ rw (es, ec, ew, eo)
 
 -- where the two vectors stand in it

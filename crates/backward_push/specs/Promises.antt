@@ -10,5 +10,5 @@ use Rattle.graph.specs.Store.{Held, degreesIn}
 -- the buffers hold the reverse rows of lent rows, and the degrees of both
 pub record Reversed (n : ℕ) (starts columns : List ℕ) (weights : List Float) (reverse-starts reverse-columns : List ℕ) (reverse-weights in-degrees out-degrees : List Float) : Type 0 where
   pub reversed : Held n (transposed n (rowsIn n starts columns weights)) (length columns) reverse-starts reverse-columns reverse-weights
-  pub ins : in-degrees ≡ degreesIn n reverse-starts reverse-weights
-  pub outs : out-degrees ≡ degreesIn n starts weights
+  pub in-degrees-are : in-degrees ≡ degreesIn n reverse-starts reverse-weights
+  pub out-degrees-are : out-degrees ≡ degreesIn n starts weights

@@ -70,16 +70,16 @@ pub record Leaves (n : ℕ) (used : Bool) (z : State) (estimate residual priorit
   pub queued-zero : queued ≡ replicate (words n) 0
   pub visited-zero : visited ≡ replicate (words n) 0
 
-module _ {n : ℕ} {isBackward : Bool} {rows : List (List Entry)} {starts columns columns′ : List ℕ} {weights weights′ degrees outs : List Float}
-    (z : Directed n isBackward rows starts columns columns′ weights weights′ degrees outs) (s : Settings) (v : ℕ) (used : Bool) where
+module _ {n : ℕ} {isBackward : Bool} {rows : List (List Entry)} {starts columns columns′ : List ℕ} {weights weights′ degrees out-degrees : List Float}
+    (z : Directed n isBackward rows starts columns columns′ weights weights′ degrees out-degrees) (s : Settings) (v : ℕ) (used : Bool) where
   pub solve-leaves : {sources : List ℕ} {r : Counted} {estimate residual priorities : List Float} {nodes queued visited : List ℕ} → sources ≡ (if used then v ∷ [] else [])
-      → SolveSettled (Stands (length degrees) isBackward starts columns columns′ weights weights′ outs) (λ way. solve way s unwatched (length degrees) sources) (length degrees)
+      → SolveSettled (Stands (length degrees) isBackward starts columns columns′ weights weights′ out-degrees) (λ way. solve way s unwatched (length degrees) sources) (length degrees)
       r estimate residual priorities nodes queued visited
       → Leaves n used (solve (over isBackward n rows) s unwatched n (v ∷ [])) estimate residual priorities nodes queued visited
   solve-leaves e d =
       let h = rw (degrees-long z, e) at d in
       let way = over isBackward n rows in
-      let m = stands-over n isBackward rows starts columns columns′ weights weights′ outs (z .rowed) (z .rows-are) (z .outs-are) in
+      let m = stands-over n isBackward rows starts columns columns′ weights weights′ out-degrees (z .rowed) (z .rows-are) (z .out-degrees-are) in
       record {
         estimate-is = h .estimate-is way m ∙ started-estimate way s n v used;
         residual-is = h .residual-is way m ∙ started-residual way s n v used;
@@ -91,22 +91,22 @@ module _ {n : ℕ} {isBackward : Bool} {rows : List (List Entry)} {starts column
 
 -- ---- which solves are used
 
-module _ {n : ℕ} {starts columns reverse-starts reverse-columns : List ℕ} {weights reverse-weights ins outs : List Float} (rowed : Rowed n starts columns weights)
-    (t : Reversed n starts columns weights reverse-starts reverse-columns reverse-weights ins outs) where
+module _ {n : ℕ} {starts columns reverse-starts reverse-columns : List ℕ} {weights reverse-weights in-degrees out-degrees : List Float} (rowed : Rowed n starts columns weights)
+    (t : Reversed n starts columns weights reverse-starts reverse-columns reverse-weights in-degrees out-degrees) where
   -- the in-degrees are the sums of the rows reversed
-  inward-is : (v : ℕ) → v < n → at ins v ≡ degree (rowAt (transposed n (rowsIn n starts columns weights)) v)
-  inward-is v l = sums-are (held-rowed (t .reversed)) (t .ins) v l ∙ ap (λ (rs : List (List Entry)). degree (rowAt rs v)) (held-rows (t .reversed))
+  inward-is : (v : ℕ) → v < n → at in-degrees v ≡ degree (rowAt (transposed n (rowsIn n starts columns weights)) v)
+  inward-is v l = sums-are (held-rowed (t .reversed)) (t .in-degrees-are) v l ∙ ap (λ (rs : List (List Entry)). degree (rowAt rs v)) (held-rows (t .reversed))
 
   -- so the method by degrees is the rules'
-  pub method-is : (adaptive : Bool) (source target : ℕ) → methodBy adaptive n ins outs source target ≡ methodFor adaptive n (rowsIn n starts columns weights) source target
+  pub method-is : (adaptive : Bool) (source target : ℕ) → methodBy adaptive n in-degrees out-degrees source target ≡ methodFor adaptive n (rowsIn n starts columns weights) source target
   unfolding methodBy method degreeOf over wayOf if_then_else_
   method-is false source target = refl
   method-is true source target = go (ltb source n && ltb target n) refl
     where
-      go : (b : Bool) → (ltb source n && ltb target n) ≡ b → methodBy true n ins outs source target ≡ method n (rowsIn n starts columns weights) source target
+      go : (b : Bool) → (ltb source n && ltb target n) ≡ b → methodBy true n in-degrees out-degrees source target ≡ method n (rowsIn n starts columns weights) source target
       go true e =
           let l = all (ltb source n) (ltb target n) e in
-          rw (e, sums-are rowed (t .outs) source (ltb-true source n (l .0)), inward-is target (ltb-true target n (l .1)))
+          rw (e, sums-are rowed (t .out-degrees-are) source (ltb-true source n (l .0)), inward-is target (ltb-true target n (l .1)))
       go false e = rw e
 
 -- ---- the score
@@ -125,13 +125,13 @@ score-is both u alpha n source target b f w p q r s l = rw (w .forward-is, w .ba
 
 -- what both solves of rows leave, with the workspace cleared
 pub joined-left : (n source target : ℕ) (starts columns : List ℕ) (weights : List Float) (b₀ : BothLent) (sf sb : Settings) (adaptive : Bool) (u : Uses) {r : Float}
-    {fe fr be br reverse-weights outs ins priorities other-priorities : List Float} {reverse-starts reverse-columns nodes queued visited other-nodes other-queued other-visited : List ℕ} → Follows u (methodFor adaptive n (rowsIn n starts columns weights) source target)
+    {fe fr be br reverse-weights out-degrees in-degrees priorities other-priorities : List Float} {reverse-starts reverse-columns nodes queued visited other-nodes other-queued other-visited : List ℕ} → Follows u (methodFor adaptive n (rowsIn n starts columns weights) source target)
     → Leaves n (u .forward) (solve (over forward n (rowsIn n starts columns weights)) sf unwatched n (source ∷ [])) fe fr other-priorities other-nodes other-queued other-visited
     → Leaves n (u .backward) (solve (over backward n (rowsIn n starts columns weights)) sb unwatched n (target ∷ [])) be br priorities nodes queued visited
     → r ≡ scoreBy u (sb .alpha) source target be br fe fr → length be ≡ n → reverse-starts ≡ replicate (n + 1) 0 → reverse-columns ≡ replicate (length columns) 0
-    → reverse-weights ≡ replicate (length columns) +0 → outs ≡ replicate n +0 → ins ≡ replicate n +0
+    → reverse-weights ≡ replicate (length columns) +0 → out-degrees ≡ replicate n +0 → in-degrees ≡ replicate n +0
     → Joins adaptive (givenRows joining n starts columns weights b₀) source target sf sb
-    (left r (bothLent fe fr (backLent reverse-starts reverse-columns reverse-weights outs (solveLent be br ins priorities nodes queued visited))))
+    (left r (bothLent fe fr (backLent reverse-starts reverse-columns reverse-weights out-degrees (solveLent be br in-degrees priorities nodes queued visited))))
 unfolding joined pairsBy givenRows ends backDone solveDone
 joined-left n source target starts columns weights b₀ sf sb adaptive u w x y e l rs rc rv o i =
     let m = methodFor adaptive n (rowsIn n starts columns weights) source target in

@@ -25,8 +25,8 @@ methodFor adaptive n rows source target = if adaptive then method n rows source 
 
 -- the same, by the degrees of n nodes
 unfoldable pub methodBy : Bool → ℕ → List Float → List Float → ℕ → ℕ → Method
-methodBy adaptive n ins outs source target =
-    if adaptive then (if ltb source n && ltb target n then byDegrees (at outs source) (at ins target) else neither) else both
+methodBy adaptive n in-degrees out-degrees source target =
+    if adaptive then (if ltb source n && ltb target n then byDegrees (at out-degrees source) (at in-degrees target) else neither) else both
 
 -- the solves that the method uses left the score, and the lent buffers as they are after it
 pub record Joins {B : Type 0} (adaptive : Bool) (g : Given Pairs B) (source target : ℕ) (sf sb : Settings) (x : Left Float B) : Type 0 where

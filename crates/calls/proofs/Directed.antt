@@ -24,27 +24,27 @@ use Rattle.calls.proofs.Degrees.{degree-at}
 use Rattle.calls.proofs.Left.{settled-left}
 
 -- the buffers hold the rows of the direction, their degrees, and the out-degrees of the graph
-pub record Directed (n : ℕ) (backward : Bool) (rows : List (List Entry)) (starts columns columns′ : List ℕ) (weights weights′ degrees outs : List Float) : Type 0 where
+pub record Directed (n : ℕ) (backward : Bool) (rows : List (List Entry)) (starts columns columns′ : List ℕ) (weights weights′ degrees out-degrees : List Float) : Type 0 where
   pub rowed : Rowed n starts (chosen backward columns columns′) (chosen backward weights weights′)
   pub columns-alike : length columns′ ≡ length columns
   pub weights-alike : length weights′ ≡ length weights
   pub rows-are : rowsIn n starts (chosen backward columns columns′) (chosen backward weights weights′) ≡ (if backward then transposed n rows else rows)
   pub degrees-are : degrees ≡ degreesIn n starts (chosen backward weights weights′)
-  pub outs-long : length outs ≡ n
-  pub outs-are : (v : ℕ) → v < n → at outs v ≡ degree (rowAt rows v)
+  pub out-degrees-long : length out-degrees ≡ n
+  pub out-degrees-are : (v : ℕ) → v < n → at out-degrees v ≡ degree (rowAt rows v)
 
 -- the sums of rows are their degrees
-module _ {n : ℕ} {starts columns : List ℕ} {weights outs : List Float} (rowed : Rowed n starts columns weights) (sums : outs ≡ degreesIn n starts weights) where
-  pub sums-long : length outs ≡ n
+module _ {n : ℕ} {starts columns : List ℕ} {weights out-degrees : List Float} (rowed : Rowed n starts columns weights) (sums : out-degrees ≡ degreesIn n starts weights) where
+  pub sums-long : length out-degrees ≡ n
   sums-long = ap length sums ∙ length-degrees n starts weights
 
-  pub sums-are : (v : ℕ) → v < n → at outs v ≡ degree (rowAt (rowsIn n starts columns weights) v)
+  pub sums-are : (v : ℕ) → v < n → at out-degrees v ≡ degree (rowAt (rowsIn n starts columns weights) v)
   sums-are v l = ap (λ (ds : List Float). getD ds v nan) sums ∙ degree-at rowed v l
 
 -- forward, the rows are those of the graph, and the degrees are the out-degrees
-pub directed-forward : {n : ℕ} {starts columns columns′ : List ℕ} {weights weights′ outs : List Float} → Rowed n starts columns weights → outs ≡ degreesIn n starts weights
+pub directed-forward : {n : ℕ} {starts columns columns′ : List ℕ} {weights weights′ out-degrees : List Float} → Rowed n starts columns weights → out-degrees ≡ degreesIn n starts weights
     → length columns′ ≡ length columns → length weights′ ≡ length weights
-    → Directed n false (rowsIn n starts columns weights) starts columns columns′ weights weights′ outs outs
+    → Directed n false (rowsIn n starts columns weights) starts columns columns′ weights weights′ out-degrees out-degrees
 unfolding chosen if_then_else_
 directed-forward z e c w = record {
   rowed = z;
@@ -52,24 +52,24 @@ directed-forward z e c w = record {
   weights-alike = w;
   rows-are = refl;
   degrees-are = e;
-  outs-long = sums-long z e;
-  outs-are = sums-are z e;
+  out-degrees-long = sums-long z e;
+  out-degrees-are = sums-are z e;
 }
 
-module _ {n : ℕ} {backward : Bool} {rows : List (List Entry)} {starts columns columns′ : List ℕ} {weights weights′ degrees outs : List Float}
-    (z : Directed n backward rows starts columns columns′ weights weights′ degrees outs) where
+module _ {n : ℕ} {backward : Bool} {rows : List (List Entry)} {starts columns columns′ : List ℕ} {weights weights′ degrees out-degrees : List Float}
+    (z : Directed n backward rows starts columns columns′ weights weights′ degrees out-degrees) where
   -- there are as many degrees as nodes
   pub degrees-long : length degrees ≡ n
   degrees-long = sums-long (z .rowed) (z .degrees-are)
 
   -- what the solve asks of the rows
-  pub rows-ready : Rows (length degrees) backward starts columns columns′ weights weights′ degrees outs
+  pub rows-ready : Rows (length degrees) backward starts columns columns′ weights weights′ degrees out-degrees
   rows-ready = rw degrees-long (record {
     rowed = z .rowed;
     columns-alike = z .columns-alike;
     weights-alike = z .weights-alike;
     degrees-are = z .degrees-are;
-    outs-long = z .outs-long;
+    out-degrees-long = z .out-degrees-long;
   })
 
   -- and of the room
@@ -79,11 +79,11 @@ module _ {n : ℕ} {backward : Bool} {rows : List (List Entry)} {starts columns 
   fits-still f = rw degrees-long (record { listed = f .listed; room = f .room; degrees-long = degrees-long; queued-long = f .queued-long; visited-long = f .visited-long })
 
   module _ (settings : Settings) (watch : Watch) (sources : List ℕ) {r : Counted} {estimate residual priorities : List Float} {nodes queued visited : List ℕ}
-      (d : SolveSettled (Stands (length degrees) backward starts columns columns′ weights weights′ outs) (λ way. solve way settings watch (length degrees) sources) (length degrees)
+      (d : SolveSettled (Stands (length degrees) backward starts columns columns′ weights weights′ out-degrees) (λ way. solve way settings watch (length degrees) sources) (length degrees)
       r estimate residual priorities nodes queued visited) where
     -- what it leaves, with the degrees cleared
     pub directed-left : {cleared : List Float} → cleared ≡ replicate n +0 → let s = solve (over backward n rows) settings watch n sources in
         left r (solveLent estimate residual cleared priorities nodes queued visited) ≡ left (countedIn s) (solveDone n (s .estimate) (s .residual))
     directed-left c =
         settled-left (rw degrees-long at d) c (over backward n rows)
-        (stands-over n backward rows starts columns columns′ weights weights′ outs (z .rowed) (z .rows-are) (z .outs-are))
+        (stands-over n backward rows starts columns columns′ weights weights′ out-degrees (z .rowed) (z .rows-are) (z .out-degrees-are))

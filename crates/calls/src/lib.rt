@@ -183,7 +183,7 @@ pub fn solve_settled<'a>(
     weights: &'a [f64],
     reverse_weights: &'a [f64],
     degrees: &[f64],
-    outs: &[f64],
+    out_degrees: &[f64],
     estimate: &mut [f64],
     residual: &mut [f64],
     priorities: &mut [f64],
@@ -191,10 +191,10 @@ pub fn solve_settled<'a>(
     queued: &mut [u64],
     visited: &mut [u64],
 ) -> Counted
-    requires { ⌜ Rows (length (now degrees)) backward (now starts) (now columns) (now «reverse_columns») (now weights) (now «reverse_weights») (now degrees) (now outs)
+    requires { ⌜ Rows (length (now degrees)) backward (now starts) (now columns) (now «reverse_columns») (now weights) (now «reverse_weights») (now degrees) (now «out_degrees»)
         × Fits (length (now degrees)) (now sources) (solveLent (now estimate) (now residual) (now degrees) (now priorities) (now nodes) (now queued) (now visited)) ⌝ }
     ensures { λ r. ⌜ SolveSettled (Stands (length (now (degrees .entry))) backward (now (starts .entry)) (now (columns .entry)) (now («reverse_columns» .entry))
-        (now (weights .entry)) (now («reverse_weights» .entry)) (now (outs .entry)))
+        (now (weights .entry)) (now («reverse_weights» .entry)) (now («out_degrees» .entry)))
         (λ way. Rules.solve way settings (watchIn watch) (length (now (degrees .entry))) (now (sources .entry)))
         (length (now (degrees .entry))) r (now (estimate .exit)) (now (residual .exit)) (now (priorities .exit)) (now (nodes .exit)) (now (queued .exit)) (now (visited .exit)) ⌝ }
 {
@@ -209,7 +209,7 @@ pub fn solve_settled<'a>(
         weights,
         reverse_weights,
         degrees,
-        outs,
+        out_degrees,
         estimate,
         residual,
         priorities,

@@ -18,23 +18,23 @@ use Rattle.pushes.specs.Buffers.{Lent}
 use Rattle.pushes.specs.Meant.{Along}
 
 -- what holds at the entry i
-pub record Spreading (backward : Bool) (rest degree : Float) (columns : List ℕ) (weights degrees outs : List Float)
+pub record Spreading (backward : Bool) (rest degree : Float) (columns : List ℕ) (weights degrees out-degrees : List Float)
     (residual₀ ps₀ : List Float) (ns₀ ws₀ : List ℕ) (q₀ : WorkQueue) (residual ps : List Float) (ns ws : List ℕ) (q : WorkQueue) (i : ℕ) : Type 0 where
   pub up-to : i ≤ length columns
   pub lent : Lent (length degrees) q residual ps ns ws
   pub same-words : length ws ≡ length ws₀
-  pub left : (way : Way) → Along backward degrees outs way → (estimate : List Float) (pushes : ℕ) (visited : List ℕ)
+  pub left : (way : Way) → Along backward degrees out-degrees way → (estimate : List Float) (pushes : ℕ) (visited : List ℕ)
       → each (pass way rest degree) (entriesOf (drop i columns) (drop i weights)) (stateIn (length degrees) estimate residual (progress q pushes) ps ns visited)
       ≡ each (pass way rest degree) (entriesOf columns weights) (stateIn (length degrees) estimate residual₀ (progress q₀ pushes) ps₀ ns₀ visited)
 
 -- the first of the entries that are left
-pub one-passes : (backward : Bool) (rest degree : Float) (columns : List ℕ) (weights degrees outs : List Float) (way : Way) → Along backward degrees outs way
+pub one-passes : (backward : Bool) (rest degree : Float) (columns : List ℕ) (weights degrees out-degrees : List Float) (way : Way) → Along backward degrees out-degrees way
     → length weights ≡ length columns → (i : ℕ) → i < length columns → getD columns i 0 < length degrees → (s : State)
     → each (pass way rest degree) (entriesOf (drop i columns) (drop i weights)) s
     ≡ each (pass way rest degree) (entriesOf (drop (i + 1) columns) (drop (i + 1) weights))
-    (offer way (getD columns i 0) (gain (shareOf backward rest degree (at weights i) (at outs (getD columns i 0))) (getD columns i 0) s))
+    (offer way (getD columns i 0) (gain (shareOf backward rest degree (at weights i) (at out-degrees (getD columns i 0))) (getD columns i 0) s))
 unfolding each pass entriesOf
-one-passes backward rest degree columns weights degrees outs way a l i h b s =
+one-passes backward rest degree columns weights degrees out-degrees way a l i h b s =
     let k : i < length weights = omega arith in
     let v = getD columns i 0 in
     rw (drop-cons columns i 0 h, drop-cons weights i nan k, add-one)

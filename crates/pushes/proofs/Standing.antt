@@ -46,8 +46,8 @@ module _ {n : ℕ} {starts columns : List ℕ} {weights : List Float} (z : Rowed
       let j : s + k < t = omega (arith, rw (e, length-slice s t columns (rw add-one (start-inside z (suc v) h))) at l) in
       rw (e, getD-drop, getD-take) (z .inside (s + k) (omega arith))
 
-module _ {n : ℕ} {backward : Bool} {starts columns columns′ : List ℕ} {weights weights′ degrees outs : List Float}
-    (r : Rows n backward starts columns columns′ weights weights′ degrees outs) where
+module _ {n : ℕ} {backward : Bool} {starts columns columns′ : List ℕ} {weights weights′ degrees out-degrees : List Float}
+    (r : Rows n backward starts columns columns′ weights weights′ degrees out-degrees) where
   module _ (v : ℕ) (h : v < n) (s e : ℕ) (p : s ≡ getD starts v 0) (q : e ≡ getD starts (v + 1) 0) where
     -- the row of v is a part of either of two lists that are as long as the columns
     part-fits : {A : Type 0} (x y : List A) → length y ≡ length x → length (chosen backward x y) ≡ length (chosen backward columns columns′)
@@ -66,17 +66,17 @@ module _ {n : ℕ} {backward : Bool} {starts columns columns′ : List ℕ} {wei
     weights-fit = part-fits weights weights′ (r .weights-alike) (r .rowed .paired)
 
   -- a way with the rows has their degrees
-  pub weighs : (way : Way) → Stands n backward starts columns columns′ weights weights′ outs way → (v : ℕ) → v < n → Weighs degrees v way
+  pub weighs : (way : Way) → Stands n backward starts columns columns′ weights weights′ out-degrees way → (v : ℕ) → v < n → Weighs degrees v way
   unfolding degreeOf
   weighs way s v h = ap (λ (l : List Float). at l v) (r .degrees-are) ∙ row-degree (r .rowed) v h ∙ ap degree (sym (s .rows v h))
 
 -- a way that the buffers stand for
 pub wayIn : Bool → List ℕ → List ℕ → List ℕ → List Float → List Float → List Float → Way
-wayIn backward starts columns columns′ weights weights′ outs =
-    wayOf backward (λ v. rowIn (getD starts v 0) (getD starts (suc v) 0) (chosen backward columns columns′) (chosen backward weights weights′)) (at outs)
+wayIn backward starts columns columns′ weights weights′ out-degrees =
+    wayOf backward (λ v. rowIn (getD starts v 0) (getD starts (suc v) 0) (chosen backward columns columns′) (chosen backward weights weights′)) (at out-degrees)
 
 -- and it is one of those that are meant, so that what is promised of all of them is said of one
-pub stands : (n : ℕ) (backward : Bool) (starts columns columns′ : List ℕ) (weights weights′ outs : List Float)
-    → Stands n backward starts columns columns′ weights weights′ outs (wayIn backward starts columns columns′ weights weights′ outs)
+pub stands : (n : ℕ) (backward : Bool) (starts columns columns′ : List ℕ) (weights weights′ out-degrees : List Float)
+    → Stands n backward starts columns columns′ weights weights′ out-degrees (wayIn backward starts columns columns′ weights weights′ out-degrees)
 unfolding wayIn wayOf
-stands n backward starts columns columns′ weights weights′ outs = record { rows = λ v h. refl; shares = λ rest degree x h. refl }
+stands n backward starts columns columns′ weights weights′ out-degrees = record { rows = λ v h. refl; shares = λ rest degree x h. refl }

@@ -21,24 +21,24 @@ pub record Seated (n v : ℕ) (q : WorkQueue) (residual priorities : List Float)
   pub below : v < n
 
 -- a row, with a residual and a queue for its nodes
-pub record Row (n : ℕ) (columns : List ℕ) (weights outs : List Float) (q : WorkQueue) (residual priorities : List Float) (nodes queued : List ℕ) : Type 0 where
+pub record Row (n : ℕ) (columns : List ℕ) (weights out-degrees : List Float) (q : WorkQueue) (residual priorities : List Float) (nodes queued : List ℕ) : Type 0 where
   pub lent : Lent n q residual priorities nodes queued
   pub paired : length weights ≡ length columns
-  pub outs-long : length outs ≡ n
+  pub out-degrees-long : length out-degrees ≡ n
   pub inside : (k : ℕ) → k < length columns → getD columns k 0 < n
 
 -- the rows of a direction, in one of two pairs of lists, with their degrees
-pub record Rows (n : ℕ) (backward : Bool) (starts columns reverse-columns : List ℕ) (weights reverse-weights degrees outs : List Float) : Type 0 where
+pub record Rows (n : ℕ) (backward : Bool) (starts columns reverse-columns : List ℕ) (weights reverse-weights degrees out-degrees : List Float) : Type 0 where
   pub rowed : Rowed n starts (chosen backward columns reverse-columns) (chosen backward weights reverse-weights)
   pub columns-alike : length reverse-columns ≡ length columns
   pub weights-alike : length reverse-weights ≡ length weights
   pub degrees-are : degrees ≡ degreesIn n starts (chosen backward weights reverse-weights)
-  pub outs-long : length outs ≡ n
+  pub out-degrees-long : length out-degrees ≡ n
 
 -- all buffers of a solve between two turns
-pub record Ready (n : ℕ) (backward : Bool) (starts columns reverse-columns : List ℕ) (weights reverse-weights degrees outs estimate residual : List Float) (q : WorkQueue)
+pub record Ready (n : ℕ) (backward : Bool) (starts columns reverse-columns : List ℕ) (weights reverse-weights degrees out-degrees estimate residual : List Float) (q : WorkQueue)
     (priorities : List Float) (nodes queued visited : List ℕ) : Type 0 where
-  pub rows : Rows n backward starts columns reverse-columns weights reverse-weights degrees outs
+  pub rows : Rows n backward starts columns reverse-columns weights reverse-weights degrees out-degrees
   pub lent : Lent n q residual priorities nodes queued
   pub estimate-long : length estimate ≡ n
   pub visited-room : n ≤ 64 * length visited

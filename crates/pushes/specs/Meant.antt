@@ -24,14 +24,14 @@ Weighing degrees way = (v : ℕ) → v < length degrees → Weighs degrees v way
 
 -- those whose shares go by these out-degrees
 abbrev pub Shares : ℕ → Bool → List Float → Way → Type 0
-Shares n backward outs way = (rest degree : Float) (x : Entry) → x .node < n → way .share rest degree x ≡ shareOf backward rest degree (x .weight) (at outs (x .node))
+Shares n backward out-degrees way = (rest degree : Float) (x : Entry) → x .node < n → way .share rest degree x ≡ shareOf backward rest degree (x .weight) (at out-degrees (x .node))
 
 -- those with these degrees and shares
-pub record Along (backward : Bool) (degrees outs : List Float) (way : Way) : Type 0 where
+pub record Along (backward : Bool) (degrees out-degrees : List Float) (way : Way) : Type 0 where
   pub weighs : Weighing degrees way
-  pub shares : Shares (length degrees) backward outs way
+  pub shares : Shares (length degrees) backward out-degrees way
 
 -- those with the rows of a direction, and its shares
-pub record Stands (n : ℕ) (backward : Bool) (starts columns reverse-columns : List ℕ) (weights reverse-weights outs : List Float) (way : Way) : Type 0 where
+pub record Stands (n : ℕ) (backward : Bool) (starts columns reverse-columns : List ℕ) (weights reverse-weights out-degrees : List Float) (way : Way) : Type 0 where
   pub rows : (v : ℕ) → v < n → way .row v ≡ rowIn (getD starts v 0) (getD starts (suc v) 0) (chosen backward columns reverse-columns) (chosen backward weights reverse-weights)
-  pub shares : Shares n backward outs way
+  pub shares : Shares n backward out-degrees way

@@ -80,7 +80,7 @@ fn pass_on(
     offer_node(q, v, degrees, residual, priorities, nodes, queued)
 }
 
-// Each entry of a row gets its share of the rest. Forward makes no use of `outs`: lend `degrees`
+// Each entry of a row gets its share of the rest. Forward makes no use of `out_degrees`: lend `degrees`
 // there, whose entry the offer reads anyway.
 fn spread(
     backward: bool,
@@ -90,14 +90,14 @@ fn spread(
     columns: &[u32],
     weights: &[f64],
     degrees: &[f64],
-    outs: &[f64],
+    out_degrees: &[f64],
     residual: &mut [f64],
     priorities: &mut [f64],
     nodes: &mut [u32],
     queued: &mut [u64],
 ) -> WorkQueue
-    requires { ⌜ Row (length (now degrees)) (now columns) (now weights) (now outs) q (now residual) (now priorities) (now nodes) (now queued) ⌝ }
-    ensures { λ r. ⌜ Moved (Along backward (now (degrees .entry)) (now (outs .entry)))
+    requires { ⌜ Row (length (now degrees)) (now columns) (now weights) (now «out_degrees») q (now residual) (now priorities) (now nodes) (now queued) ⌝ }
+    ensures { λ r. ⌜ Moved (Along backward (now (degrees .entry)) (now («out_degrees» .entry)))
         (λ way. each (pass way rest degree) (entriesOf (now (columns .entry)) (now (weights .entry)))) (length (now (degrees .entry)))
         (now (residual .entry)) q (now (priorities .entry)) (now (nodes .entry))
         (now (residual .exit)) r (now (priorities .exit)) (now (nodes .exit)) (now (queued .exit)) ⌝ }
@@ -107,7 +107,7 @@ fn spread(
     while i < columns.len() {
         let v = columns[i];
         let at = v as usize;
-        let x = share(backward, rest, degree, weights[i], outs[at]);
+        let x = share(backward, rest, degree, weights[i], out_degrees[at]);
         w = pass_on(w, v, x, degrees, residual, priorities, nodes, queued);
         i += 1;
     }
@@ -127,16 +127,16 @@ fn hand_out<'a>(
     weights: &'a [f64],
     reverse_weights: &'a [f64],
     degrees: &[f64],
-    outs: &[f64],
+    out_degrees: &[f64],
     residual: &mut [f64],
     priorities: &mut [f64],
     nodes: &mut [u32],
     queued: &mut [u64],
 ) -> WorkQueue
-    requires { ⌜ Rows (length (now degrees)) backward (now starts) (now columns) (now «reverse_columns») (now weights) (now «reverse_weights») (now degrees) (now outs)
+    requires { ⌜ Rows (length (now degrees)) backward (now starts) (now columns) (now «reverse_columns») (now weights) (now «reverse_weights») (now degrees) (now «out_degrees»)
         × Seated (length (now degrees)) v q (now residual) (now priorities) (now nodes) (now queued) ⌝ }
     ensures { λ r. ⌜ Moved (Stands (length (now (degrees .entry))) backward (now (starts .entry)) (now (columns .entry)) (now («reverse_columns» .entry))
-        (now (weights .entry)) (now («reverse_weights» .entry)) (now (outs .entry))) (λ way. handOut way rest v) (length (now (degrees .entry)))
+        (now (weights .entry)) (now («reverse_weights» .entry)) (now («out_degrees» .entry))) (λ way. handOut way rest v) (length (now (degrees .entry)))
         (now (residual .entry)) q (now (priorities .entry)) (now (nodes .entry))
         (now (residual .exit)) r (now (priorities .exit)) (now (nodes .exit)) (now (queued .exit)) ⌝ }
 {
@@ -155,7 +155,7 @@ fn hand_out<'a>(
             row,
             part,
             degrees,
-            outs,
+            out_degrees,
             residual,
             priorities,
             nodes,
@@ -188,17 +188,17 @@ pub fn push_node<'a>(
     weights: &'a [f64],
     reverse_weights: &'a [f64],
     degrees: &[f64],
-    outs: &[f64],
+    out_degrees: &[f64],
     estimate: &mut [f64],
     residual: &mut [f64],
     priorities: &mut [f64],
     nodes: &mut [u32],
     queued: &mut [u64],
 ) -> WorkQueue
-    requires { ⌜ Rows (length (now degrees)) backward (now starts) (now columns) (now «reverse_columns») (now weights) (now «reverse_weights») (now degrees) (now outs)
+    requires { ⌜ Rows (length (now degrees)) backward (now starts) (now columns) (now «reverse_columns») (now weights) (now «reverse_weights») (now degrees) (now «out_degrees»)
         × Seated (length (now degrees)) v q (now residual) (now priorities) (now nodes) (now queued) × (length (now estimate) ≡ length (now degrees)) ⌝ }
     ensures { λ r. ⌜ Pushed (Stands (length (now (degrees .entry))) backward (now (starts .entry)) (now (columns .entry)) (now («reverse_columns» .entry))
-        (now (weights .entry)) (now («reverse_weights» .entry)) (now (outs .entry))) (λ way. push way alpha v) (length (now (degrees .entry)))
+        (now (weights .entry)) (now («reverse_weights» .entry)) (now («out_degrees» .entry))) (λ way. push way alpha v) (length (now (degrees .entry)))
         (now (estimate .entry)) (now (residual .entry)) q (now (priorities .entry)) (now (nodes .entry))
         (now (estimate .exit)) (now (residual .exit)) r (now (priorities .exit)) (now (nodes .exit)) (now (queued .exit)) ⌝ }
 {
@@ -220,7 +220,7 @@ pub fn push_node<'a>(
         weights,
         reverse_weights,
         degrees,
-        outs,
+        out_degrees,
         residual,
         priorities,
         nodes,

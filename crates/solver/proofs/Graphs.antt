@@ -14,12 +14,12 @@ use Rattle.rules.specs.Rules.{at}
 use Rattle.pushes.specs.Meant.{Stands}
 
 -- the lists of the direction hold its rows, and the out-degrees are those of the graph
-pub stands-over : (n : ℕ) (backward : Bool) (rows : List (List Entry)) (starts columns columns′ : List ℕ) (weights weights′ outs : List Float)
+pub stands-over : (n : ℕ) (backward : Bool) (rows : List (List Entry)) (starts columns columns′ : List ℕ) (weights weights′ out-degrees : List Float)
     → Rowed n starts (chosen backward columns columns′) (chosen backward weights weights′)
     → rowsIn n starts (chosen backward columns columns′) (chosen backward weights weights′) ≡ (if backward then transposed n rows else rows)
-    → ((v : ℕ) → v < n → at outs v ≡ degree (rowAt rows v)) → Stands n backward starts columns columns′ weights weights′ outs (over backward n rows)
+    → ((v : ℕ) → v < n → at out-degrees v ≡ degree (rowAt rows v)) → Stands n backward starts columns columns′ weights weights′ out-degrees (over backward n rows)
 unfolding over wayOf
-stands-over n backward rows starts columns columns′ weights weights′ outs h e o =
+stands-over n backward rows starts columns columns′ weights weights′ out-degrees h e o =
     record {
       rows = λ v l. ap (λ (rs : List (List Entry)). getD rs v []) (sym e) ∙ row-at h v l;
       shares = λ rest d x l. ap (shareOf backward rest d (x .weight)) (sym (o (x .node) l));

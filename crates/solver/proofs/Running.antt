@@ -63,11 +63,11 @@ solved way settings watch n sources s t e f =
     f (enough settings n) (rw e (solve-ends way settings watch n sources)) ∙ ap (run way settings watch (enough settings n)) e
 
 -- what holds between two turns
-pub record Running (settings : Settings) (backward : Bool) (watch : Watch) (starts columns columns′ : List ℕ) (weights weights′ degrees outs : List Float)
+pub record Running (settings : Settings) (backward : Bool) (watch : Watch) (starts columns columns′ : List ℕ) (weights weights′ degrees out-degrees : List Float)
     (estimate₀ residual₀ ps₀ : List Float) (ns₀ ws₀ vs₀ : List ℕ) (p₀ : Progress) (estimate residual ps : List Float) (ns ws vs : List ℕ) (p : Progress) : Type 0 where
-  pub ready : Ready (length degrees) backward starts columns columns′ weights weights′ degrees outs estimate residual (p .queue) ps ns ws vs
+  pub ready : Ready (length degrees) backward starts columns columns′ weights weights′ degrees out-degrees estimate residual (p .queue) ps ns ws vs
   pub same-queued : length ws ≡ length ws₀
   pub same-visited : length vs ≡ length vs₀
   pub beyond : SameBeyond (length degrees) vs₀ vs
-  pub left : (way : Way) → Stands (length degrees) backward starts columns columns′ weights weights′ outs way
+  pub left : (way : Way) → Stands (length degrees) backward starts columns columns′ weights weights′ out-degrees way
       → end way settings watch (stateIn (length degrees) estimate residual p ps ns vs) ≡ end way settings watch (stateIn (length degrees) estimate₀ residual₀ p₀ ps₀ ns₀ vs₀)

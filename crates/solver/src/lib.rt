@@ -48,7 +48,7 @@ fn visit<'a>(
     weights: &'a [f64],
     reverse_weights: &'a [f64],
     degrees: &[f64],
-    outs: &[f64],
+    out_degrees: &[f64],
     estimate: &mut [f64],
     residual: &mut [f64],
     priorities: &mut [f64],
@@ -56,11 +56,11 @@ fn visit<'a>(
     queued: &mut [u64],
     visited: &mut [u64],
 ) -> Progress
-    requires { ⌜ Ready (length (now degrees)) backward (now starts) (now columns) (now «reverse_columns») (now weights) (now «reverse_weights») (now degrees) (now outs)
+    requires { ⌜ Ready (length (now degrees)) backward (now starts) (now columns) (now «reverse_columns») (now weights) (now «reverse_weights») (now degrees) (now «out_degrees»)
         (now estimate) (now residual) (p .queue) (now priorities) (now nodes) (now queued) (now visited)
         × (v < length (now degrees)) × (p .pushes < settings .«max_pushes») ⌝ }
     ensures { λ r. ⌜ Visited (Stands (length (now (degrees .entry))) backward (now (starts .entry)) (now (columns .entry)) (now («reverse_columns» .entry))
-        (now (weights .entry)) (now («reverse_weights» .entry)) (now (outs .entry))) (λ way. Rules.visit way settings v) (length (now (degrees .entry)))
+        (now (weights .entry)) (now («reverse_weights» .entry)) (now («out_degrees» .entry))) (λ way. Rules.visit way settings v) (length (now (degrees .entry)))
         (now (estimate .entry)) (now (residual .entry)) p (now (priorities .entry)) (now (nodes .entry)) (now (visited .entry))
         (now (estimate .exit)) (now (residual .exit)) r (now (priorities .exit)) (now (nodes .exit)) (now (queued .exit)) (now (visited .exit)) ⌝ }
 {
@@ -80,7 +80,7 @@ fn visit<'a>(
         weights,
         reverse_weights,
         degrees,
-        outs,
+        out_degrees,
         estimate,
         residual,
         priorities,
@@ -104,7 +104,7 @@ fn turn<'a>(
     weights: &'a [f64],
     reverse_weights: &'a [f64],
     degrees: &[f64],
-    outs: &[f64],
+    out_degrees: &[f64],
     estimate: &mut [f64],
     residual: &mut [f64],
     priorities: &mut [f64],
@@ -112,11 +112,11 @@ fn turn<'a>(
     queued: &mut [u64],
     visited: &mut [u64],
 ) -> Progress
-    requires { ⌜ Ready (length (now degrees)) backward (now starts) (now columns) (now «reverse_columns») (now weights) (now «reverse_weights») (now degrees) (now outs)
+    requires { ⌜ Ready (length (now degrees)) backward (now starts) (now columns) (now «reverse_columns») (now weights) (now «reverse_weights») (now degrees) (now «out_degrees»)
         (now estimate) (now residual) (p .queue) (now priorities) (now nodes) (now queued) (now visited)
         × (0 < p .queue .size) × (p .pushes < settings .«max_pushes») ⌝ }
     ensures { λ r. ⌜ Turned (Stands (length (now (degrees .entry))) backward (now (starts .entry)) (now (columns .entry)) (now («reverse_columns» .entry))
-        (now (weights .entry)) (now («reverse_weights» .entry)) (now (outs .entry))) settings (length (now (degrees .entry)))
+        (now (weights .entry)) (now («reverse_weights» .entry)) (now («out_degrees» .entry))) settings (length (now (degrees .entry)))
         (now (estimate .entry)) (now (residual .entry)) p (now (priorities .entry)) (now (nodes .entry)) (now (visited .entry))
         (now (estimate .exit)) (now (residual .exit)) r (now (priorities .exit)) (now (nodes .exit)) (now (queued .exit)) (now (visited .exit)) ⌝ }
 {
@@ -139,7 +139,7 @@ fn turn<'a>(
         weights,
         reverse_weights,
         degrees,
-        outs,
+        out_degrees,
         estimate,
         residual,
         priorities,
@@ -207,7 +207,7 @@ fn run<'a>(
     weights: &'a [f64],
     reverse_weights: &'a [f64],
     degrees: &[f64],
-    outs: &[f64],
+    out_degrees: &[f64],
     estimate: &mut [f64],
     residual: &mut [f64],
     priorities: &mut [f64],
@@ -215,10 +215,10 @@ fn run<'a>(
     queued: &mut [u64],
     visited: &mut [u64],
 ) -> Progress
-    requires { ⌜ Ready (length (now degrees)) backward (now starts) (now columns) (now «reverse_columns») (now weights) (now «reverse_weights») (now degrees) (now outs)
+    requires { ⌜ Ready (length (now degrees)) backward (now starts) (now columns) (now «reverse_columns») (now weights) (now «reverse_weights») (now degrees) (now «out_degrees»)
         (now estimate) (now residual) (p .queue) (now priorities) (now nodes) (now queued) (now visited) ⌝ }
     ensures { λ r. ⌜ Ran (Stands (length (now (degrees .entry))) backward (now (starts .entry)) (now (columns .entry)) (now («reverse_columns» .entry))
-        (now (weights .entry)) (now («reverse_weights» .entry)) (now (outs .entry))) settings (watchIn watch) (length (now (degrees .entry)))
+        (now (weights .entry)) (now («reverse_weights» .entry)) (now («out_degrees» .entry))) settings (watchIn watch) (length (now (degrees .entry)))
         (now (estimate .entry)) (now (residual .entry)) p (now (priorities .entry)) (now (nodes .entry)) (now (visited .entry))
         (now (estimate .exit)) (now (residual .exit)) r (now (priorities .exit)) (now (nodes .exit)) (now (queued .exit)) (now (visited .exit)) ⌝ }
 {
@@ -234,7 +234,7 @@ fn run<'a>(
             weights,
             reverse_weights,
             degrees,
-            outs,
+            out_degrees,
             estimate,
             residual,
             priorities,
@@ -384,7 +384,7 @@ fn start(
 }
 
 // A whole solve, whatever the buffers held. The starts and the degrees are those of the direction,
-// and `outs` are the out-degrees. Forward reads no reverse list: lend the others twice.
+// and `out_degrees` are the out-degrees. Forward reads no reverse list: lend the others twice.
 pub fn solve<'a>(
     settings: Settings,
     backward: bool,
@@ -396,7 +396,7 @@ pub fn solve<'a>(
     weights: &'a [f64],
     reverse_weights: &'a [f64],
     degrees: &[f64],
-    outs: &[f64],
+    out_degrees: &[f64],
     estimate: &mut [f64],
     residual: &mut [f64],
     priorities: &mut [f64],
@@ -404,10 +404,10 @@ pub fn solve<'a>(
     queued: &mut [u64],
     visited: &mut [u64],
 ) -> Progress
-    requires { ⌜ Rows (length (now degrees)) backward (now starts) (now columns) (now «reverse_columns») (now weights) (now «reverse_weights») (now degrees) (now outs)
+    requires { ⌜ Rows (length (now degrees)) backward (now starts) (now columns) (now «reverse_columns») (now weights) (now «reverse_weights») (now degrees) (now «out_degrees»)
         × Room (length (now degrees)) (now estimate) (now residual) (now priorities) (now nodes) (now queued) (now visited) × (length (now sources) ≤ 65536) ⌝ }
     ensures { λ r. ⌜ Begun (Stands (length (now (degrees .entry))) backward (now (starts .entry)) (now (columns .entry)) (now («reverse_columns» .entry))
-        (now (weights .entry)) (now («reverse_weights» .entry)) (now (outs .entry)))
+        (now (weights .entry)) (now («reverse_weights» .entry)) (now («out_degrees» .entry)))
         (λ way. Rules.solve way settings (watchIn watch) (length (now (degrees .entry))) (now (sources .entry)))
         (length (now (degrees .entry))) (now (estimate .exit)) (now (residual .exit)) r (now (priorities .exit)) (now (nodes .exit)) (now (queued .exit)) (now (visited .exit)) ⌝ }
 {
@@ -434,7 +434,7 @@ pub fn solve<'a>(
         weights,
         reverse_weights,
         degrees,
-        outs,
+        out_degrees,
         estimate,
         residual,
         priorities,

@@ -48,7 +48,7 @@ spread-requires c κs =
     record {
       lent = s .pre .1 .lent;
       paired = row-paired (r .rowed) (a .v) (s .pre .1 .below) e f;
-      outs-long = r .outs-long;
+      out-degrees-long = r .out-degrees-long;
       inside = row-inside (r .rowed) (a .v) (s .pre .1 .below) e;
     }
 

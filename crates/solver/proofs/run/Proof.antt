@@ -12,11 +12,11 @@ use Rattle.solver.proofs.run.Statement.{statement}
 use Rattle.solver.proofs.run.Tie as tie
 
 abbrev Inv-loop : tie.InvT-loop
-Inv-loop settings backward watch starts columns reverse-columns weights reverse-weights degrees outs estimate₀ residual₀ priorities₀ nodes₀ queued₀ visited₀ w₀ estimate residual priorities nodes queued visited w =
-    Running settings backward (watchIn watch) starts columns reverse-columns weights reverse-weights degrees outs estimate₀ residual₀ priorities₀ nodes₀ queued₀ visited₀ w₀ estimate residual priorities nodes queued visited w
+Inv-loop settings backward watch starts columns reverse-columns weights reverse-weights degrees out-degrees estimate₀ residual₀ priorities₀ nodes₀ queued₀ visited₀ w₀ estimate residual priorities nodes queued visited w =
+    Running settings backward (watchIn watch) starts columns reverse-columns weights reverse-weights degrees out-degrees estimate₀ residual₀ priorities₀ nodes₀ queued₀ visited₀ w₀ estimate residual priorities nodes queued visited w
 
 abbrev μ-loop : tie.MeasureT-loop
-μ-loop settings backward watch starts columns reverse-columns weights reverse-weights degrees outs estimate₀ residual₀ priorities₀ nodes₀ queued₀ visited₀ w₀ estimate residual priorities nodes queued visited w = measure settings (stateIn (length degrees) estimate residual w priorities nodes visited)
+μ-loop settings backward watch starts columns reverse-columns weights reverse-weights degrees out-degrees estimate₀ residual₀ priorities₀ nodes₀ queued₀ visited₀ w₀ estimate residual priorities nodes queued visited w = measure settings (stateIn (length degrees) estimate residual w priorities nodes visited)
 
 loop-holds : tie.Need-loop-holds Inv-loop μ-loop
 loop-holds c = record { ready = c .before .before .before .before .before .before .before .before .before .before .before .before .before .pre; same-queued = refl; same-visited = refl; beyond = λ u h. refl; left = λ way st. refl }
@@ -42,8 +42,8 @@ loop-less c =
     let l = c .before .before .before .before .before .before .before .before .before .before .before .before .before .before .before .before .before .before .before .before .before .before .before .loop in
     let t = c .before .before .before .before .before .before .before .before .before .before .before .before .turn in
     let n = length (now (a .degrees)) in
-    let way = wayIn (a .backward) (now (a .starts)) (now (a .columns)) (now (a .reverse-columns)) (now (a .weights)) (now (a .reverse-weights)) (now (a .outs)) in
-    let st = stands n (a .backward) (now (a .starts)) (now (a .columns)) (now (a .reverse-columns)) (now (a .weights)) (now (a .reverse-weights)) (now (a .outs)) in
+    let way = wayIn (a .backward) (now (a .starts)) (now (a .columns)) (now (a .reverse-columns)) (now (a .weights)) (now (a .reverse-weights)) (now (a .out-degrees)) in
+    let st = stands n (a .backward) (now (a .starts)) (now (a .columns)) (now (a .reverse-columns)) (now (a .weights)) (now (a .reverse-weights)) (now (a .out-degrees)) in
     goes (a .settings) (watchIn (a .watch)) (stateIn n (l .estimate) (l .residual) (l .w) (l .priorities) (l .nodes) (l .visited)) (l .w .queue .size)
     (sym (c .before .before .before .before .before .before .before .before .before .before .before .before .before .before .before .before .before .before .before .before .goes-on .ensures n (l .priorities) (l .nodes) (l .visited)) ∙ c .before .before .before .before .before .before .before .before .before .before .before .before .before .before .before .before .before .before .before .if1 .taken) way (t .ensures .node) (t .ensures .priority) (t .ensures .was-next) _
     (t .ensures .after .state way st) .1

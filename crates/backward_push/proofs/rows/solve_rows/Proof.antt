@@ -70,7 +70,7 @@ returns c =
           (rw (t .kept .1 .1 .1 .1 .0, p .0 .starts-long) at (k .0))
           (rw (t .kept .1 .1 .1 .1 .1 .0, p .0 .columns-long) at (k .1))
           (rw (t .kept .1 .1 .1 .1 .1 .1 .0, p .0 .weights-long) at (k .2))
-          (rw (z .outs-long) at (k .4));
+          (rw (z .out-degrees-long) at (k .4));
     }
 
 pub solve-rows-spec : {M : Type 1} → statement M
