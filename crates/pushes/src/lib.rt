@@ -26,11 +26,11 @@ pub fn effective(degree: f64) -> f64
 }
 
 // What an entry gets of the rest.
-fn share(backward: bool, rest: f64, degree: f64, weight: f64, out: f64) -> f64
-    ensures { λ r. ⌜ r ≡ shareOf backward rest degree weight out ⌝ }
+fn share(backward: bool, rest: f64, degree: f64, weight: f64, out_degree: f64) -> f64
+    ensures { λ r. ⌜ r ≡ shareOf backward rest degree weight «out_degree» ⌝ }
 {
     if backward {
-        rest * (weight / effective(out))
+        rest * (weight / effective(out_degree))
     } else {
         rest * weight / degree
     }
