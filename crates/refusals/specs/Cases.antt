@@ -25,7 +25,7 @@ node-edge : map nodes (65536 ∷ 65537 ∷ []) ≡ 0 ∷ 1 ∷ []
 unfolding nodes _when_
 node-edge = refl
 
--- 1,048,576 links pass, and one more gives 2; so do 65,536 sources or targets, and one more
+-- 1,048,576 links pass, one more gives 2; and 65,536 sources or targets pass, one more gives 2
 link-edge : map links (1048576 ∷ 1048577 ∷ []) ≡ 0 ∷ 2 ∷ []
 unfolding links _when_
 link-edge = refl
