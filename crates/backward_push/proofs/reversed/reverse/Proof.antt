@@ -37,8 +37,8 @@ returns c =
     let p = c .before .before .before .before .before .before .before .before .before .before .before .before .before .before .before .before .before .before .before .before .before .before .before .before .before .before .before .before .before .before .before .before .pre in
     record {
       reversed = c .before .before .before .before .before .before .before .before .before .before .before .before .before .before .reverse-rows .ensures .held;
-      in-degrees = rw (p .1) at (c .before .before .sum-rows2 .ensures);
-      out-degrees = rw (p .2) at (c .before .before .before .before .before .before .before .before .before .before .before .before .before .before .before .before .before .before .before .before .before .sum-rows .ensures);
+      in-degrees-are = rw (p .1) at (c .before .before .sum-rows2 .ensures);
+      out-degrees-are = rw (p .2) at (c .before .before .before .before .before .before .before .before .before .before .before .before .before .before .before .before .before .before .before .before .before .sum-rows .ensures);
     }
 
 pub reverse-spec : {M : Type 1} → statement M
