@@ -8,7 +8,7 @@ use lib.ListN.{length, getD}
 use lib.Ieee.{Float}
 use Rattle.numbers.proofs.Tables.{length-tabulate, getD-tabulate}
 use Rattle.marks.specs.Marks.{marked, howMany}
-use Rattle.marks.proofs.Total.{how-many-same, how-many-none}
+use Rattle.marks.proofs.HowMany.{how-many-same, how-many-none}
 use Rattle.rules.specs.Answers.{visitedCount}
 use Rattle.pushes.specs.States.{marksIn, stateIn, NoneBeyond}
 use Rattle.pushes.specs.declared.Progress.{Progress}

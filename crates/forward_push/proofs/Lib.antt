@@ -1,2 +1,3 @@
--- The theorem that each call of the forward solver has one outcome.
+-- The theorems on the calls of the forward solver: each has one outcome, and demand 3 of what is left.
 pub mod One
+pub mod Unreached

@@ -1,4 +1,4 @@
--- Numbers as text: how long they are, and that the fewest decimal digits that hold a number are as many as `places` counts. Assumes nothing.
+-- Numbers as text: how long they are, and that the fewest decimal digits that hold a number are as many as `digitCount` counts. Assumes nothing.
 use Prim.Native.Nat.{ℕ, zero, suc, _+_, _-_, _*_, _/_, _%_, _^_, _≤_, _<_}
 use native.Mathlib.Nat.{one-le-pow, pow-le-pow-right}
 use native.Mathlib.Numerals.{unary-clauses, add-one}
@@ -13,7 +13,7 @@ use lib.ListN.{length, length-append}
 use lib.Ieee.{Float, binary64, toBits}
 use Rattle.numbers.specs.Choice.{if_then_else_}
 use Rattle.io.specs.Digits.{glyph, digits, Fewest}
-use Rattle.job_text.specs.Text.{places, decimal, bits, space, Grown}
+use Rattle.job_text.specs.Text.{digitCount, decimal, bits, space, Grown}
 
 pub fewest-few : (b least most n k : ℕ) → 0 < b → least ≤ most → n < b ^ most → Fewest b least n k → k ≤ most
 fewest-few b least most n k p h bound f = go (decLt most k)
@@ -26,19 +26,19 @@ fewest-few b least most n k p h bound f = go (decLt most k)
     go (no few) = omega arith
 
 -- counted up to one more than `most`
-pub fewest-places : (most k n : ℕ) → k ≤ suc most → Fewest 10 1 n k → k ≡ places most n
-unfolding places if_then_else_
-fewest-places most zero n h f = absurd (omega (arith, f .0))
-fewest-places zero (suc k) n h f = omega arith
-fewest-places (suc most) (suc zero) n h f = rw (lt-ltb n 10 (f .1))
-fewest-places (suc most) (suc (suc j)) n h f =
+pub fewest-digits : (most k n : ℕ) → k ≤ suc most → Fewest 10 1 n k → k ≡ digitCount most n
+unfolding digitCount if_then_else_
+fewest-digits most zero n h f = absurd (omega (arith, f .0))
+fewest-digits zero (suc k) n h f = omega arith
+fewest-digits (suc most) (suc zero) n h f = rw (lt-ltb n 10 (f .1))
+fewest-digits (suc most) (suc (suc j)) n h f =
     let low : 10 ^ j * 10 ≤ n = simp unary-clauses at (f .2 (omega arith)) in
     let high : n < 10 * 10 ^ suc j = rw (pow-step 10 (suc j)) at (f .1) in
     let some : 1 ≤ 10 ^ j = one-le-pow j 10 (omega arith) in
     let step : 10 ^ suc j ≡ 10 * 10 ^ j = pow-step 10 j in
     let least : 10 ^ j ≤ n / 10 = omega arith in
     rw (le-ltb n 10 (omega arith))
-    (ap suc (fewest-places most (suc j) (n / 10) (omega arith) (omega arith, omega arith, λ _. simp unary-clauses least)))
+    (ap suc (fewest-digits most (suc j) (n / 10) (omega arith) (omega arith, omega arith, λ _. simp unary-clauses least)))
 
 -- ---- how long a number is
 
@@ -52,14 +52,14 @@ unfolding if_then_else_
 either-few true most k h = omega arith
 either-few false most k h = omega arith
 
-places-few : (most n : ℕ) → places most n ≤ suc most
-unfolding places
-places-few zero n = omega arith
-places-few (suc most) n = either-few (ltb n 10) (suc most) (places most (n / 10)) (places-few most (n / 10))
+digits-few : (most n : ℕ) → digitCount most n ≤ suc most
+unfolding digitCount
+digits-few zero n = omega arith
+digits-few (suc most) n = either-few (ltb n 10) (suc most) (digitCount most (n / 10)) (digits-few most (n / 10))
 
 length-decimal : (n : ℕ) → length (decimal n) ≤ 20
 unfolding decimal
-length-decimal n = rw (length-digits 10 (places 19 n) n) (places-few 19 n)
+length-decimal n = rw (length-digits 10 (digitCount 19 n) n) (digits-few 19 n)
 
 length-bits : (x : Float) → length (bits x) ≡ 16
 unfolding bits

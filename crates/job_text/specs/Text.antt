@@ -11,13 +11,13 @@ use Rattle.numbers.specs.Choice.{if_then_else_}
 -- ---- numbers
 
 -- how many decimal digits n has, counted up to so many and one more
-unfoldable pub places : ℕ → ℕ → ℕ
-places zero n = 1
-places (suc most) n = if ltb n 10 then 1 else suc (places most (n / 10))
+unfoldable pub digitCount : ℕ → ℕ → ℕ
+digitCount zero n = 1
+digitCount (suc most) n = if ltb n 10 then 1 else suc (digitCount most (n / 10))
 
 -- a whole number below 2 ^ 64, in decimal
 unfoldable pub decimal : ℕ → List ℕ
-decimal n = digits 10 (places 19 n) n
+decimal n = digits 10 (digitCount 19 n) n
 
 -- a float's bits, as 16 lower-case hex digits; a NaN as 7ff8000000000000
 unfoldable pub bits : Float → List ℕ

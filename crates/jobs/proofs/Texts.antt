@@ -23,7 +23,7 @@ use Rattle.job_fields.specs.Fields.{wordsAt, floatsAt}
 use Rattle.job_fields.specs.Shape.{nodesIn, linksIn, sourcesIn, shaped}
 use Rattle.job_text.specs.Text.{refusedLine, Grown}
 use Rattle.jobs.specs.Jobs.{settingsIn, job, jobIn, refusal, end, refusedOr, doneText, prints}
-use Rattle.jobs.specs.Promises.{ListsLong, RowsLong, SolveLong, answered, Writes, writes}
+use Rattle.jobs.specs.Promises.{ListsLong, RowsLong, SolveLong, answerText, Writes, writes}
 
 -- a refusal
 pub text-refused : (number : ℕ) (done : List ℕ) {text text′ : List ℕ} {r : ℕ} → (number ≡ 0 → ⊥) → Grown 0 (refusedLine number) text r text′ → Grown 0 (refusedOr number done) text r text′
@@ -44,13 +44,13 @@ alike-lengths [] h = refl
 alike-lengths (p ∷ ps) h = rw (eq-eqb (p .0) (p .1) (h .0)) (alike-lengths ps (h .1))
 
 -- the answer's text, by the solve's first number and the state that it ends in
-solved-answered : {B : Type 0} (number : ℕ) (g : Given State B) (s : State) (norm : Float) (estimateOf residualOf : B → List Float)
+answer-text : {B : Type 0} (number : ℕ) (g : Given State B) (s : State) (norm : Float) (estimateOf residualOf : B → List Float)
     → estimateOf (g .after s) ≡ s .estimate → residualOf (g .after s) ≡ s .residual → {r : Solved} {b : B} → left r b ≡ solvedWith number g s norm
-    → answered r (estimateOf b) (residualOf b) ≡ refusedOr number (doneText s norm)
+    → answerText r (estimateOf b) (residualOf b) ≡ refusedOr number (doneText s norm)
 unfolding solvedWith call refusedOr
-solved-answered {B} zero g s norm estimateOf residualOf he hr e =
-    ap (λ (x : Left Solved B). answered (x .answer) (estimateOf (x .lent)) (residualOf (x .lent))) e ∙ rw (he, hr)
-solved-answered {B} (suc k) g s norm estimateOf residualOf he hr e = ap (λ (x : Left Solved B). answered (x .answer) (estimateOf (x .lent)) (residualOf (x .lent))) e
+answer-text {B} zero g s norm estimateOf residualOf he hr e =
+    ap (λ (x : Left Solved B). answerText (x .answer) (estimateOf (x .lent)) (residualOf (x .lent))) e ∙ rw (he, hr)
+answer-text {B} (suc k) g s norm estimateOf residualOf he hr e = ap (λ (x : Left Solved B). answerText (x .answer) (estimateOf (x .lent)) (residualOf (x .lent))) e
 
 module _ (n : ℕ) (from to : List ℕ) (weight : List Float) (sources : List ℕ) (s : Settings) where
   -- all lengths are as stated
@@ -69,7 +69,7 @@ module _ (n : ℕ) (from to : List ℕ) (weight : List Float) (sources : List �
   -- what is written of the solve's answer is the job's text
   pub solve-writes : (b : LinksLent SolveLent) → ListsLong (length from) to weight → RowsLong n (length from) (b .starts) (b .columns) (b .weights) → SolveLong n (b .rest)
       → {r : Solved} {b′ : LinksLent SolveLent} → solveMultiSource (givenLinks solving n from to weight b) sources s (left r b′)
-      → {text text′ : List ℕ} {k : ℕ} → Grown 0 (answered r (b′ .rest .estimate) (b′ .rest .residual)) text k text′ → writes (job n from to weight sources s) text k text′
+      → {text text′ : List ℕ} {k : ℕ} → Grown 0 (answerText r (b′ .rest .estimate) (b′ .rest .residual)) text k text′ → writes (job n from to weight sources s) text k text′
   unfolding end ends givenLinks
   solve-writes b l r v solves grown =
       let j = job n from to weight sources s in
@@ -80,7 +80,7 @@ module _ (n : ℕ) (from to : List ℕ) (weight : List Float) (sources : List �
               norm = solves .norm;
               is-norm = λ h. solves .is-norm (number-is b l r v ∙ h);
               is-text =
-                  solved-answered (givenLinks solving n from to weight b .tests (length sources) or settings s) (givenLinks solving n from to weight b) (end j) (solves .norm) (λ x. x .rest .estimate) (λ x. x .rest .residual)
+                  answer-text (givenLinks solving n from to weight b .tests (length sources) or settings s) (givenLinks solving n from to weight b) (end j) (solves .norm) (λ x. x .rest .estimate) (λ x. x .rest .residual)
                   (links-after solving (λ (x : SolveLent). x .estimate) (end j) (end j .estimate) (λ n m. done-estimate n (end j .estimate) (end j .residual)) n from to weight b)
                   (links-after solving (λ (x : SolveLent). x .residual) (end j) (end j .residual) (λ n m. done-residual n (end j .estimate) (end j .residual)) n from to weight b)
                   (solves .leaves)

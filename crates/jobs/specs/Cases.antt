@@ -21,7 +21,7 @@ use Rattle.rules.specs.Answers.{visitedCount}
 use Rattle.job_fields.specs.Fields.{number, wordAt, floatAt, wordsAt, floatsAt}
 use Rattle.job_fields.specs.Shape.{shaped}
 use Rattle.job_fields.specs.Cases.{chainJob}
-use Rattle.job_text.specs.Text.{places, decimal, bits, refusedLine, doneLine, nodeLine, nodeLines}
+use Rattle.job_text.specs.Text.{digitCount, decimal, bits, refusedLine, doneLine, nodeLine, nodeLines}
 use Rattle.jobs.specs.Jobs.{settingsIn, jobIn, refusal, end, refusedOr, prints}
 
 -- P1's text
@@ -53,7 +53,7 @@ pub record Printed : Type 0 where
 
 -- the list holds
 pub printed : Printed
-unfolding chainText if_then_else_ tabulate howMany kept gives rowOf rowsOf linksOf sumFrom degree taken answer offered better bestFrom next usual adapted effective transition shareOf wayOf over degreeOf each blank queued gain absorb counted offer pass handOut push stops due skips visit turn onward run inside watchable begun start enough solve any unlike visitedCount addSquares ofBits toBits ofInt add sub mul div lt le odd chainJob shaped number wordAt floatAt wordsAt floatsAt settingsIn jobIn refusal end refusedOr _or_ _when_ nodes links listed lengths weights alphas settings places decimal bits refusedLine doneLine nodeLine nodeLines
+unfolding chainText if_then_else_ tabulate howMany kept gives rowOf rowsOf linksOf sumFrom degree taken answer offered better bestFrom next usual adapted effective transition shareOf wayOf over degreeOf each blank queued gain absorb counted offer pass handOut push stops due skips visit turn onward run inside watchable begun start enough solve any unlike visitedCount addSquares ofBits toBits ofInt add sub mul div lt le odd chainJob shaped number wordAt floatAt wordsAt floatsAt settingsIn jobIn refusal end refusedOr _or_ _when_ nodes links listed lengths weights alphas settings digitCount decimal bits refusedLine doneLine nodeLine nodeLines
 printed =
     record {
       chain =

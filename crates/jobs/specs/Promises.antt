@@ -35,8 +35,8 @@ pub record SolveLong (n : ℕ) (b : SolveLent) : Type 0 where
   pub visited-long : length (b .visited) ≡ words n
 
 -- the text of an answer and two vectors
-abbrev pub answered : Solved → List Float → List Float → List ℕ
-answered r estimate residual = refusedOr (r .refusal) (doneLine (r .«push_count») (r .«nodes_visited») (r .«residual_norm») ++ nodeLines 0 estimate residual)
+abbrev pub answerText : Solved → List Float → List Float → List ℕ
+answerText r estimate residual = refusedOr (r .refusal) (doneLine (r .«push_count») (r .«nodes_visited») (r .«residual_norm») ++ nodeLines 0 estimate residual)
 
 -- a text of which P holds stands at the start of the buffer, is r long, and the bytes behind it are as they were
 pub record Writes (P : List ℕ → Type 0) (text : List ℕ) (r : ℕ) (text′ : List ℕ) : Type 0 where

@@ -8,7 +8,7 @@ ghost use Rattle.io.specs.Counts.{Counts};
 ghost use Rattle.job_fields.specs.Shape.{linksIn, sourcesIn, shaped};
 ghost use Rattle.job_text.specs.Text.{Grown};
 ghost use Rattle.jobs.specs.Jobs.{settingsIn, job, jobIn, prints};
-ghost use Rattle.jobs.specs.Promises.{Roomy, ListsLong, RowsLong, SolveLong, answered, Writes, writes};
+ghost use Rattle.jobs.specs.Promises.{Roomy, ListsLong, RowsLong, SolveLong, answerText, Writes, writes};
 use calls::Solved;
 use refusals::Settings;
 
@@ -32,7 +32,7 @@ fn settings_in(bytes: &[u8]) -> Settings
 // Writes what a solve answered and left in its two vectors.
 fn tell(solved: Solved, estimate: &[f64], residual: &[f64], text: &mut [u8]) -> usize
     requires { ⌜ (length (now estimate) ≤ 256) × (length (now residual) ≡ length (now estimate)) × Roomy (now text) ⌝ }
-    ensures { λ r. ⌜ Grown 0 (answered solved (now (estimate .entry)) (now (residual .entry))) (now (text .entry)) r (now (text .exit)) ⌝ }
+    ensures { λ r. ⌜ Grown 0 (answerText solved (now (estimate .entry)) (now (residual .entry))) (now (text .entry)) r (now (text .exit)) ⌝ }
 {
     if solved.refusal != 0 {
         return job_text::append_refused(text, 0, solved.refusal);

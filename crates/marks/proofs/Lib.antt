@@ -1,4 +1,4 @@
--- Laws of bits, of marks and of their count. `Marking` and `Total` are for whoever marks nodes.
+-- Laws of bits, of marks and of their count. `Marking` and `HowMany` are for whoever marks nodes.
 mod Bits
 pub mod Marking
-pub mod Total
+pub mod HowMany

@@ -3,7 +3,7 @@ use mathlib.Core.Path.{_≡_, refl}
 use mathlib.Core.Bool.{true, false}
 use mathlib.Core.List.{[], _∷_}
 use lib.Count.{ones}
-use Rattle.marks.specs.Marks.{marked, total, howMany}
+use Rattle.marks.specs.Marks.{marked, allOnes, howMany}
 
 -- a bit that is set, and one that is not
 two-marked : marked (5 ∷ []) 2 ≡ true
@@ -28,8 +28,8 @@ unfolding marked
 past-the-words = refl
 
 -- the ones of two words
-three-ones : total (5 ∷ 1 ∷ []) ≡ 3
-unfolding total ones
+three-ones : allOnes (5 ∷ 1 ∷ []) ≡ 3
+unfolding allOnes ones
 three-ones = refl
 
 -- of the first three nodes two are marked, and of the first two one

@@ -23,9 +23,9 @@ pub record WithMark (mark : Bool) (old new : List ℕ) (v : ℕ) : Type 0 where
   pub elsewhere : (u : ℕ) → u ≢ v → marked new u ≡ marked old u
 
 -- the ones of all words
-unfoldable pub total : List ℕ → ℕ
-total [] = 0
-total (w ∷ ws) = ones w + total ws
+unfoldable pub allOnes : List ℕ → ℕ
+allOnes [] = 0
+allOnes (w ∷ ws) = ones w + allOnes ws
 
 -- how many numbers below n pass a test
 unfoldable pub howMany : ℕ → (ℕ → Bool) → ℕ

@@ -4,7 +4,7 @@ ghost use mathlib.Core.Bool.{true, false};
 ghost use mathlib.Core.Path.{_≡_};
 ghost use Prim.Native.Nat.{_*_, _/_, _<_, _≤_};
 ghost use lib.ListN.{length, replicate};
-ghost use Rattle.marks.specs.Marks.{marked, WithMark, total, howMany};
+ghost use Rattle.marks.specs.Marks.{marked, WithMark, allOnes, howMany};
 
 // Whether the node v is marked.
 pub fn is_marked(words: &[u64], v: u32) -> bool
@@ -39,7 +39,7 @@ pub fn unmark(words: &mut [u64], v: u32)
 // How many nodes are marked: the ones of all words.
 pub fn count(words: &[u64]) -> u32
     requires { ⌜ length (now words) ≤ 1048576 ⌝ }
-    ensures { λ r. ⌜ (r ≡ total (now (words .entry))) × (r ≡ howMany (64 * length (now (words .entry))) (marked (now (words .entry)))) ⌝ }
+    ensures { λ r. ⌜ (r ≡ allOnes (now (words .entry))) × (r ≡ howMany (64 * length (now (words .entry))) (marked (now (words .entry)))) ⌝ }
 {
     let mut n: u32 = 0;
     let mut i = 0;

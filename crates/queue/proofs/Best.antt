@@ -10,11 +10,11 @@ use lib.Ieee.{Float, le}
 use Rattle.numbers.proofs.Tests.{of-true, of-false}
 use Rattle.numbers.proofs.Choice.{decided}
 use Rattle.queue.specs.Waiting.{Slot, out, waits, Best, nobody, best, better, bestFrom, next}
-use Rattle.queue.specs.Heap.{Entry, Under}
+use Rattle.queue.specs.Heap.{WorkItem, Under}
 use Rattle.queue.proofs.Taken.{out-waits}
 
 -- the entry of a node at a priority
-abbrev entry : ℕ → Float → Entry
+abbrev entry : ℕ → Float → WorkItem
 entry v p = record { priority = p; node = v }
 
 -- the node N, which waits at P

@@ -13,7 +13,7 @@ use Rattle.numbers.proofs.Tests.{of-true}
 use Rattle.numbers.proofs.Order.{le-number-right}
 use Rattle.marks.specs.Marks.{marked, WithMark}
 use Rattle.queue.specs.Waiting.{Slot, out, waits, taken, offered}
-use Rattle.queue.specs.Heap.{Entry, entries, filled, waiting, parent, Numbers, isWaiting, Heap}
+use Rattle.queue.specs.Heap.{WorkItem, entries, filled, waiting, parent, Numbers, isWaiting, Heap}
 use Rattle.queue.specs.Promises.{Holds}
 use Rattle.queue.specs.Steps.{OrderedBut, Climbed}
 use Rattle.queue.proofs.Stores.{put-here, put-elsewhere}
@@ -68,7 +68,7 @@ module _ (size : ℕ) (ps : List Float) (ns ws : List ℕ) (H : Heap size ps ns 
   module _ (t p : Float) (reach : le t p ≡ true) (m : marked ws v ≡ false) (ps′ : List Float) (ns′ ws′ : List ℕ) (same-ps : length ps′ ≡ length ps)
       (same-ns : length ns′ ≡ length ns) (c : Climbed size (entries (set ps size p) (set ns size v)) (entries ps′ ns′)) (w : WithMark true ws ws′ v) where
     -- the entries with the new one at the last place, before it climbs
-    abbrev put : ℕ → Entry
+    abbrev put : ℕ → WorkItem
     put = entries (set ps size p) (set ns size v)
 
     put-last : put size ≡ record { priority = p; node = v }
@@ -81,7 +81,7 @@ module _ (size : ℕ) (ps : List Float) (ns ws : List ℕ) (H : Heap size ps ns 
     put-fills : filled (length ps) put (suc size) ≡ set slots v (waits p)
     unfolding filled waiting
     put-fills =
-        ap₂ (λ (a : Entry) (l : List Slot). set l (a .node) (waits (a .priority))) put-last (filled-same (length ps) (entries ps ns) put size put-old)
+        ap₂ (λ (a : WorkItem) (l : List Slot). set l (a .node) (waits (a .priority))) put-last (filled-same (length ps) (entries ps ns) put size put-old)
 
     put-full : Full (length ps) put (suc size)
     put-full = ap taken put-fills ∙ taken-more slots v p (free m) ∙ ap suc (H .count)
@@ -90,8 +90,8 @@ module _ (size : ℕ) (ps : List Float) (ns ws : List ℕ) (H : Heap size ps ns 
     put-numbers k h = go (ℕ-discrete k size)
       where
         go : Dec (k ≡ size) → isNan (put k .priority) ≡ false
-        go (yes e) = ap (λ (i : ℕ). isNan (put i .priority)) e ∙ ap (λ (a : Entry). isNan (a .priority)) put-last ∙ le-number-right t p (of-true reach)
-        go (no e) = let old : k < size = omega arith in ap (λ (a : Entry). isNan (a .priority)) (put-old k old) ∙ H .numbers k old
+        go (yes e) = ap (λ (i : ℕ). isNan (put i .priority)) e ∙ ap (λ (a : WorkItem). isNan (a .priority)) put-last ∙ le-number-right t p (of-true reach)
+        go (no e) = let old : k < size = omega arith in ap (λ (a : WorkItem). isNan (a .priority)) (put-old k old) ∙ H .numbers k old
 
     put-ordered : OrderedBut (λ j. j ≡ size) (suc size) put size
     put-ordered =

@@ -12,7 +12,7 @@ use lib.Seq.{set-set, set-getD}
 use lib.Ieee.{Float}
 use Rattle.marks.specs.Marks.{WithMark}
 use Rattle.queue.specs.Waiting.{Slot, out, waits, taken, best, next}
-use Rattle.queue.specs.Heap.{Entry, entries, filled, waiting, Under, parent, Heap}
+use Rattle.queue.specs.Heap.{WorkItem, entries, filled, waiting, Under, parent, Heap}
 use Rattle.queue.specs.Promises.{Removed}
 use Rattle.queue.specs.Steps.{Exchanged, Among, OrderedBut, Sunk}
 use Rattle.queue.proofs.Under.{under-reflexive, under-transitive}
@@ -27,10 +27,10 @@ module _ (size : ℕ) (ps : List Float) (ns ws : List ℕ) (H : Heap size ps ns 
   abbrev slots : List Slot
   slots = waiting size ps ns
 
-  abbrev e : ℕ → Entry
+  abbrev e : ℕ → WorkItem
   e = entries ps ns
 
-  abbrev first : Entry
+  abbrev first : WorkItem
   first = e 0
 
   full : Full (length ps) e size
@@ -68,7 +68,7 @@ module _ (size : ℕ) (ps : List Float) (ns ws : List ℕ) (H : Heap size ps ns 
           ]
 
   -- ---- the entries exchanged, and then settled among all but the last
-  module _ (e₁ : ℕ → Entry) (x : Exchanged 0 (size - 1) e e₁) (ps′ : List Float) (ns′ ws′ : List ℕ) (same-ps : length ps′ ≡ length ps)
+  module _ (e₁ : ℕ → WorkItem) (x : Exchanged 0 (size - 1) e e₁) (ps′ : List Float) (ns′ ws′ : List ℕ) (same-ps : length ps′ ≡ length ps)
       (same-ns : length ns′ ≡ length ns) (d : Sunk 0 (size - 1) e₁ (entries ps′ ns′)) (w : WithMark false ws ws′ (first .node)) where
     abbrev m : ℕ
     m = size - 1
@@ -96,7 +96,7 @@ module _ (size : ℕ) (ps : List Float) (ns ws : List ℕ) (H : Heap size ps ns 
         sym (set-getD rest (e₁ m .node) out) ∙ ap (set rest (e₁ m .node)) (last .free .empty)
         ∙ sym (set-set rest (e₁ m .node) (waits (e₁ m .priority)) out)
         ∙ ap (λ (l : List Slot). set l (e₁ m .node) out) exchanged-fills
-        ∙ ap (λ (a : Entry). set slots (a .node) out) (x .second)
+        ∙ ap (λ (a : WorkItem). set slots (a .node) out) (x .second)
 
     ordered-left : OrderedBut (λ j. (j ≡ 0) ⊎ (parent j ≡ 0)) m e₁ 0
     ordered-left =

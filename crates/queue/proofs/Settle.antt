@@ -10,7 +10,7 @@ use lib.Seq.{getD-set-same, getD-set-other}
 use lib.Ieee.{Float}
 use Rattle.marks.specs.Marks.{marked, WithMark}
 use Rattle.queue.specs.Waiting.{Slot, out, taken}
-use Rattle.queue.specs.Heap.{Entry, entries, filled, waiting, isWaiting, Heap}
+use Rattle.queue.specs.Heap.{WorkItem, entries, filled, waiting, isWaiting, Heap}
 use Rattle.queue.specs.Promises.{Holds}
 use Rattle.queue.specs.Steps.{OrderedBut, Settled}
 use Rattle.queue.proofs.Exchanging.{numbers-among}
@@ -37,7 +37,7 @@ marks-follow slots ws ws′ v s w agree u h = go (ℕ-discrete u v)
     go (no p) = w .elsewhere u p ∙ agree u h ∙ ap isWaiting (sym (getD-set-other slots v u s out p))
 
 -- the entries e₁ fill the queue with the slot of v changed, and settle in the buffers
-module _ {size : ℕ} {ps : List Float} {ns ws : List ℕ} (H : Heap size ps ns ws) (v : ℕ) (s : Slot) {wrong : ℕ → Type 0} {k size′ : ℕ} {e₁ : ℕ → Entry}
+module _ {size : ℕ} {ps : List Float} {ns ws : List ℕ} (H : Heap size ps ns ws) (v : ℕ) (s : Slot) {wrong : ℕ → Type 0} {k size′ : ℕ} {e₁ : ℕ → WorkItem}
     {ps′ : List Float} {ns′ ws′ : List ℕ} where
   pub settles : Settled wrong size′ k e₁ (entries ps′ ns′) → OrderedBut wrong size′ e₁ k → Full (length ps) e₁ size′
       → filled (length ps) e₁ size′ ≡ set (waiting size ps ns) v s → size′ ≤ length ps → length ps′ ≡ length ps → length ns′ ≡ length ns

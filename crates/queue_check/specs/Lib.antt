@@ -1,2 +1,2 @@
 -- The definitions that the contracts of `queue_check` cite.
-pub mod Ready
+pub mod QueueReady

@@ -8,7 +8,7 @@ use queue::WorkQueue;
 ghost use mathlib.Core.Path.{_≡_};
 ghost use Prim.Native.Nat.{_+_, _≤_, _<_};
 ghost use lib.ListN.{length};
-ghost use Rattle.queue_check.specs.Ready.{Ready};
+ghost use Rattle.queue_check.specs.QueueReady.{QueueReady};
 
 const START: u64 = 0;
 
@@ -70,9 +70,9 @@ fn offer_up_to(
     last: u32,
     priority: f64,
 ) -> WorkQueue
-    requires { ⌜ Ready (queue .size) (now priorities) (now nodes) (now marks) ⌝ }
+    requires { ⌜ QueueReady (queue .size) (now priorities) (now nodes) (now marks) ⌝ }
     requires { ⌜ last < 65536 ⌝ }
-    ensures { λ r. ⌜ Ready (r .size) (now (priorities .exit)) (now (nodes .exit)) (now (marks .exit)) ⌝ }
+    ensures { λ r. ⌜ QueueReady (r .size) (now (priorities .exit)) (now (nodes .exit)) (now (marks .exit)) ⌝ }
 {
     let mut q = queue;
     let mut v = 0;
@@ -91,8 +91,8 @@ fn pop_and_compare(
     marks: &mut [u64],
     node: u32,
 ) -> Done
-    requires { ⌜ Ready (queue .size) (now priorities) (now nodes) (now marks) ⌝ }
-    ensures { λ r. ⌜ Ready (r .queue .size) (now (priorities .exit)) (now (nodes .exit)) (now (marks .exit)) ⌝ }
+    requires { ⌜ QueueReady (queue .size) (now priorities) (now nodes) (now marks) ⌝ }
+    ensures { λ r. ⌜ QueueReady (r .queue .size) (now (priorities .exit)) (now (nodes .exit)) (now (marks .exit)) ⌝ }
 {
     let size = queue.size;
     if size == 0 {
@@ -117,9 +117,9 @@ fn start_or_offer(
     marks: &mut [u64],
     o: Operation,
 ) -> WorkQueue
-    requires { ⌜ Ready (queue .size) (now priorities) (now nodes) (now marks) ⌝ }
+    requires { ⌜ QueueReady (queue .size) (now priorities) (now nodes) (now marks) ⌝ }
     requires { ⌜ o .node < 65536 ⌝ }
-    ensures { λ r. ⌜ Ready (r .size) (now (priorities .exit)) (now (nodes .exit)) (now (marks .exit)) ⌝ }
+    ensures { λ r. ⌜ QueueReady (r .size) (now (priorities .exit)) (now (nodes .exit)) (now (marks .exit)) ⌝ }
 {
     let what = o.what;
     let node = o.node;
@@ -142,9 +142,9 @@ fn perform(
     marks: &mut [u64],
     o: Operation,
 ) -> Done
-    requires { ⌜ Ready (queue .size) (now priorities) (now nodes) (now marks) ⌝ }
+    requires { ⌜ QueueReady (queue .size) (now priorities) (now nodes) (now marks) ⌝ }
     requires { ⌜ o .node < 65536 ⌝ }
-    ensures { λ r. ⌜ Ready (r .queue .size) (now (priorities .exit)) (now (nodes .exit)) (now (marks .exit)) ⌝ }
+    ensures { λ r. ⌜ QueueReady (r .queue .size) (now (priorities .exit)) (now (nodes .exit)) (now (marks .exit)) ⌝ }
 {
     let what = o.what;
     let node = o.node;
@@ -192,8 +192,8 @@ fn replay(
     marks: &mut [u64],
     bytes: &[u8],
 ) -> Tally
-    requires { ⌜ Ready (t .queue .size) (now priorities) (now nodes) (now marks) ⌝ }
-    ensures { λ r. ⌜ Ready (r .queue .size) (now (priorities .exit)) (now (nodes .exit)) (now (marks .exit)) ⌝ }
+    requires { ⌜ QueueReady (t .queue .size) (now priorities) (now nodes) (now marks) ⌝ }
+    ensures { λ r. ⌜ QueueReady (r .queue .size) (now (priorities .exit)) (now (nodes .exit)) (now (marks .exit)) ⌝ }
 {
     let mut tally = t;
     let mut i = 0;
@@ -210,8 +210,8 @@ fn replay(
 // Replays what the next read of standard input gives: 4,096 records, fewer at the end, and then
 // none.
 fn replay_next(t: Tally, priorities: &mut [f64], nodes: &mut [u32], marks: &mut [u64]) -> Tally
-    requires { ⌜ Ready (t .queue .size) (now priorities) (now nodes) (now marks) ⌝ }
-    ensures { λ r. ⌜ Ready (r .queue .size) (now (priorities .exit)) (now (nodes .exit)) (now (marks .exit)) ⌝ }
+    requires { ⌜ QueueReady (t .queue .size) (now priorities) (now nodes) (now marks) ⌝ }
+    ensures { λ r. ⌜ QueueReady (r .queue .size) (now (priorities .exit)) (now (nodes .exit)) (now (marks .exit)) ⌝ }
 {
     let mut buffer = io::large_buffer();
     let n = io::read_full(STDIN_FILENO, &mut buffer);

@@ -12,7 +12,7 @@ use lib.Dec.{eqb}
 use Rattle.numbers.specs.Tables.{any}
 use Rattle.numbers.proofs.Choice.{decided}
 use Rattle.marks.specs.Marks.{howMany}
-use Rattle.marks.proofs.Total.{how-many-same, how-many-none}
+use Rattle.marks.proofs.HowMany.{how-many-same, how-many-none}
 use Rattle.rules.specs.Pushed.{distinct}
 
 -- one number more passes

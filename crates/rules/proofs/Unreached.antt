@@ -29,6 +29,10 @@ alike s t e =
       norms = λ r q h k. unique (addSquares _ (t .residual)) r q (subst (λ (s : State). Norm (s .residual) r) e h) k;
     }
 
+-- the rows of a list of links are its kept links
+pub rows-kept : (n : ℕ) (links : List Link) → rowAt (rowsOf n links) ≡ keptLinks n links
+rows-kept n links = fun-ext (rows-at n links)
+
 module _ (settings : Settings) (watch : Watch) (n : ℕ) (list : List ℕ) where
   -- ---- for any rows, and so for lent ones, which are `rowsIn`
 
@@ -67,18 +71,14 @@ module _ (settings : Settings) (watch : Watch) (n : ℕ) (list : List ℕ) where
 
   -- ---- for lists of links
 
-  -- the rows of a list are its kept links
-  rows-kept : (links : List Link) → rowAt (rowsOf n links) ≡ keptLinks n links
-  rows-kept links = fun-ext (rows-at n links)
-
   module _ (links : List Link) where
     -- A node that the sources cannot reach has score and remainder +0.
     pub unreached : (v : ℕ) → v < n → ¬ Reached (keptLinks n links) n list v → Untouched (solve (overLinks forward n links) settings watch n list) v
-    unreached v l off = unreached-rows (rowsOf n links) v l (subst (λ (row : ℕ → List Entry). ¬ Reached row n list v) (sym (rows-kept links)) off)
+    unreached v l off = unreached-rows (rowsOf n links) v l (subst (λ (row : ℕ → List Entry). ¬ Reached row n list v) (sym (rows-kept n links)) off)
 
     -- A node that can reach no target has score and remainder +0.
     pub unreaching : (v : ℕ) → v < n → ¬ Reaches (keptLinks n links) n list v → Untouched (solve (overLinks backward n links) settings watch n list) v
-    unreaching v l off = unreaching-rows (rowsOf n links) v l (subst (λ (row : ℕ → List Entry). ¬ Reaches row n list v) (sym (rows-kept links)) off)
+    unreaching v l off = unreaching-rows (rowsOf n links) v l (subst (λ (row : ℕ → List Entry). ¬ Reaches row n list v) (sym (rows-kept n links)) off)
 
     module _ (others : List Link) where
       -- FORWARD. Where the kept links out of every node that the sources can reach are the same, in the same order, the two lists give the same scores,
@@ -87,7 +87,7 @@ module _ (settings : Settings) (watch : Watch) (n : ℕ) (list : List ℕ) where
           → Alike (solve (overLinks forward n links) settings watch n list) (solve (overLinks forward n others) settings watch n list)
       forward-alike same =
           forward-rows (rowsOf n links) (rowsOf n others)
-          (subst₂ (λ (row other : ℕ → List Entry). SameReached row other n list) (sym (rows-kept links)) (sym (rows-kept others)) same)
+          (subst₂ (λ (row other : ℕ → List Entry). SameReached row other n list) (sym (rows-kept n links)) (sym (rows-kept n others)) same)
 
       -- BACKWARD. So they do where the nodes that can reach a target are the same in both lists, and the kept links out of every one of them are the
       -- same, in the same order.
@@ -95,4 +95,4 @@ module _ (settings : Settings) (watch : Watch) (n : ℕ) (list : List ℕ) where
           → Alike (solve (overLinks backward n links) settings watch n list) (solve (overLinks backward n others) settings watch n list)
       backward-alike same =
           backward-rows (rowsOf n links) (rowsOf n others)
-          (subst₂ (λ (row other : ℕ → List Entry). SameReaching row other n list) (sym (rows-kept links)) (sym (rows-kept others)) same)
+          (subst₂ (λ (row other : ℕ → List Entry). SameReaching row other n list) (sym (rows-kept n links)) (sym (rows-kept n others)) same)

@@ -12,7 +12,7 @@ use lib.Dec.{eqb}
 use Rattle.numbers.specs.Choice.{if_then_else_}
 use Rattle.numbers.specs.Tables.{any}
 use Rattle.refusals.specs.declared.Settings.{Settings}
-use Rattle.marks.proofs.Total.{how-many-same}
+use Rattle.marks.proofs.HowMany.{how-many-same}
 use Rattle.queue.specs.Waiting.{out}
 use Rattle.rules.specs.Ways.{Way}
 use Rattle.rules.specs.Rules.{State, Watch, blank, queued, counted, push, due, skips, visit, turn, run, start, enough, solve}

@@ -50,6 +50,11 @@ pub record SameReaching (row other : ℕ → List Entry) (n : ℕ) (targets : Li
   pub nodes : (v : ℕ) → Reaches row n targets v ↔ Reaches other n targets v
   pub links : (v : ℕ) → Reaches row n targets v → row v ≡ other v
 
+-- forward, or backward
+abbrev pub SameConnected : Bool → (ℕ → List Entry) → (ℕ → List Entry) → ℕ → List ℕ → Type 0
+SameConnected false row other n list = SameReached row other n list
+SameConnected true row other n list = SameReaching row other n list
+
 -- two solves end with the same scores, remainders, counts and norm
 pub record Alike (s t : State) : Type 0 where
   pub scores : s .estimate ≡ t .estimate

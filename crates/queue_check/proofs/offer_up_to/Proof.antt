@@ -3,13 +3,13 @@ use mathlib.Core.Path.{_≡_}
 use Prim.Native.Nat.{suc, _-_, _≤_}
 use native.Mathlib.Omega.{arith}
 use lib.ListN.{length}
-use Rattle.queue_check.specs.Ready.{Ready}
+use Rattle.queue_check.specs.QueueReady.{QueueReady}
 use borrow.Author.Needs.{needs}
 use Rattle.queue_check.proofs.offer_up_to.Statement.{statement}
 use Rattle.queue_check.proofs.offer_up_to.Tie as tie
 
 abbrev Inv-loop : tie.InvT-loop
-Inv-loop priorities₀ nodes₀ marks₀ last priority q₀ v₀ priorities nodes marks q v = Ready (q .size) priorities nodes marks × (length marks ≡ length marks₀) × (v ≤ suc last)
+Inv-loop priorities₀ nodes₀ marks₀ last priority q₀ v₀ priorities nodes marks q v = QueueReady (q .size) priorities nodes marks × (length marks ≡ length marks₀) × (v ≤ suc last)
 
 abbrev μ-loop : tie.MeasureT-loop
 μ-loop priorities₀ nodes₀ marks₀ last priority q₀ v₀ priorities nodes marks q v = suc last - v

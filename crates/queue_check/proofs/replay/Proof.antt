@@ -4,14 +4,14 @@ use Prim.Native.Nat.{_-_, _/_, _≤_}
 use native.Mathlib.Omega.{arith}
 use lib.ListN.{length}
 use Rattle.queue.specs.declared.WorkQueue.{WorkQueue}
-use Rattle.queue_check.specs.Ready.{Ready}
+use Rattle.queue_check.specs.QueueReady.{QueueReady}
 use borrow.Author.Needs.{needs}
 use Rattle.queue_check.proofs.replay.Statement.{statement}
 use Rattle.queue_check.proofs.replay.Tie as tie
 
 abbrev Inv-loop : tie.InvT-loop
 Inv-loop priorities₀ nodes₀ marks₀ bytes tally₀ i₀ priorities nodes marks tally i =
-    Ready (tally .queue .size) priorities nodes marks × (length marks ≡ length marks₀) × (i ≤ length bytes / 16)
+    QueueReady (tally .queue .size) priorities nodes marks × (length marks ≡ length marks₀) × (i ≤ length bytes / 16)
 
 abbrev μ-loop : tie.MeasureT-loop
 μ-loop priorities₀ nodes₀ marks₀ bytes tally₀ i₀ priorities nodes marks tally i = length bytes / 16 - i

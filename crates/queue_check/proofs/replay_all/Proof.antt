@@ -3,14 +3,14 @@ use mathlib.Core.Path.{_≡_}
 use Prim.Native.Nat.{_-_, _≤_}
 use native.Mathlib.Omega.{arith}
 use lib.ListN.{length}
-use Rattle.queue_check.specs.Ready.{Ready}
+use Rattle.queue_check.specs.QueueReady.{QueueReady}
 use borrow.Author.Needs.{needs}
 use Rattle.queue_check.proofs.replay_all.Statement.{statement}
 use Rattle.queue_check.proofs.replay_all.Tie as tie
 
 abbrev Inv-loop : tie.InvT-loop
 Inv-loop priorities₀ nodes₀ marks₀ tally₀ reads₀ priorities nodes marks tally reads =
-    Ready (tally .queue .size) priorities nodes marks × (length marks ≡ 1024) × (reads ≤ 64)
+    QueueReady (tally .queue .size) priorities nodes marks × (length marks ≡ 1024) × (reads ≤ 64)
 
 abbrev μ-loop : tie.MeasureT-loop
 μ-loop priorities₀ nodes₀ marks₀ tally₀ reads₀ priorities nodes marks tally reads = 64 - reads

@@ -12,21 +12,21 @@ use lib.Dec.{eqb}
 use lib.Pow.{shr-lt, shr-shr}
 use lib.Arith.{lt-one}
 use lib.Count.{ones, ones-step}
-use Rattle.marks.specs.Marks.{bit, marked, total, howMany}
+use Rattle.marks.specs.Marks.{bit, marked, allOnes, howMany}
 use Rattle.marks.proofs.Bits.{digit}
 
 -- ---- word by word
-total-append : (s t : List ℕ) → total (s ++ t) ≡ total s + total t
-unfolding total
-total-append [] t = sym (zero-add (total t))
-total-append (w ∷ s) t = ap (λ (x : ℕ). ones w + x) (total-append s t) ∙ sym (add-assoc (ones w) (total s) (total t))
+all-ones-append : (s t : List ℕ) → allOnes (s ++ t) ≡ allOnes s + allOnes t
+unfolding allOnes
+all-ones-append [] t = sym (zero-add (allOnes t))
+all-ones-append (w ∷ s) t = ap (λ (x : ℕ). ones w + x) (all-ones-append s t) ∙ sym (add-assoc (ones w) (allOnes s) (allOnes t))
 
 -- one word more
-pub total-more : (ws : List ℕ) (i : ℕ) → i < length ws → total (take (i + 1) ws) ≡ total (take i ws) + ones (getD ws i 0)
-unfolding total
-total-more ws i h =
-    ap (λ (x : ℕ). total (take x ws)) (add-one i) ∙ ap total (take-suc ws i 0 h) ∙ total-append (take i ws) (getD ws i 0 ∷ [])
-    ∙ ap (λ (x : ℕ). total (take i ws) + x) (add-zero (ones (getD ws i 0)))
+pub all-ones-more : (ws : List ℕ) (i : ℕ) → i < length ws → allOnes (take (i + 1) ws) ≡ allOnes (take i ws) + ones (getD ws i 0)
+unfolding allOnes
+all-ones-more ws i h =
+    ap (λ (x : ℕ). allOnes (take x ws)) (add-one i) ∙ ap allOnes (take-suc ws i 0 h) ∙ all-ones-append (take i ws) (getD ws i 0 ∷ [])
+    ∙ ap (λ (x : ℕ). allOnes (take i ws) + x) (add-zero (ones (getD ws i 0)))
 
 -- ---- node by node
 
@@ -88,13 +88,13 @@ marked-rest w ws k =
     sym (ap₂ (λ (x y : ℕ). eqb (bit (getD (w ∷ ws) x 0) y) 1) d m)
 
 -- what `count` gives, for words of 64 bits: how many of all their nodes are marked
-pub total-marked : (ws : List ℕ) → ((i : ℕ) → i < length ws → getD ws i 0 < 2 ^ 64) → total ws ≡ howMany (64 * length ws) (marked ws)
-unfolding total howMany
-total-marked [] f = refl
-total-marked (w ∷ ws) f =
+pub all-ones-marked : (ws : List ℕ) → ((i : ℕ) → i < length ws → getD ws i 0 < 2 ^ 64) → allOnes ws ≡ howMany (64 * length ws) (marked ws)
+unfolding allOnes howMany
+all-ones-marked [] f = refl
+all-ones-marked (w ∷ ws) f =
     ap₂ _+_
     (word-count 64 w (f 0 (suc-le-suc zero-le)) ∙ how-many-same 64 (λ j. eqb (bit w j) 1) (marked (w ∷ ws)) (marked-first w ws))
-    (total-marked ws (λ i h. f (suc i) (suc-le-suc h)) ∙ how-many-same (64 * length ws) (marked ws) (λ k. marked (w ∷ ws) (64 + k)) (λ k l. marked-rest w ws k))
+    (all-ones-marked ws (λ i h. f (suc i) (suc-le-suc h)) ∙ how-many-same (64 * length ws) (marked ws) (λ k. marked (w ∷ ws) (64 + k)) (λ k l. marked-rest w ws k))
     ∙ sym (how-many-add 64 (64 * length ws) (marked (w ∷ ws)))
     ∙ ap (λ (n : ℕ). howMany n (marked (w ∷ ws))) (one-more (length ws))
   where

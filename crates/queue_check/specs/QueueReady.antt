@@ -6,6 +6,6 @@ use lib.ListN.{length}
 use lib.Ieee.{Float}
 use Rattle.queue.specs.Heap.{Heap}
 
-pub record Ready (size : ℕ) (priorities : List Float) (nodes marks : List ℕ) : Type 0 where
+pub record QueueReady (size : ℕ) (priorities : List Float) (nodes marks : List ℕ) : Type 0 where
   pub heap : Heap size priorities nodes marks
   pub wide : length priorities ≡ 65536
