@@ -32,10 +32,11 @@ use Rattle.calls.proofs.Directed.{Directed, degrees-long, sums-are}
 use Rattle.calls.proofs.Links.{made-left}
 use Rattle.backward_push.specs.Lent.{backLent, backDone}
 use Rattle.backward_push.specs.Promises.{Reversed}
-use Rattle.bidirectional_push.specs.declared.Uses.{Uses}
+use Rattle.combination.specs.declared.Uses.{Uses}
+use Rattle.combination.specs.Methods.{usesForward, usesBackward, methodBy, Follows, scoreBy}
 use Rattle.bidirectional_push.specs.Lent.{Pairs, BothLent, bothLent, joining}
-use Rattle.bidirectional_push.specs.Outcomes.{usesForward, usesBackward, whereUsed, pairsBy, joined, bySolves}
-use Rattle.bidirectional_push.specs.Promises.{methodFor, methodBy, Joins, ChecksBoth, Follows, scoreBy}
+use Rattle.bidirectional_push.specs.Outcomes.{whereUsed, pairsBy, joined, bySolves}
+use Rattle.bidirectional_push.specs.Promises.{methodFor, Joins, ChecksBoth}
 
 -- ---- one solve
 

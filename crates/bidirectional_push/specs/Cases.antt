@@ -6,8 +6,9 @@ use Rattle.numbers.specs.Numbers.{f64, +0}
 use Rattle.numbers.specs.Choice.{if_then_else_}
 use Rattle.rules.specs.Rules.{State}
 use Rattle.rules.specs.Answers.{Method, neither, backwardAlone, forwardAlone, both, scoreAt, combined, answerBy}
+use Rattle.combination.specs.Methods.{usesForward, usesBackward}
 use Rattle.bidirectional_push.specs.Lent.{Pairs}
-use Rattle.bidirectional_push.specs.Outcomes.{usesForward, usesBackward, pairsBy}
+use Rattle.bidirectional_push.specs.Outcomes.{pairsBy}
 
 -- a state with this estimate and residual
 abbrev ended : List Float → List Float → State

@@ -1,6 +1,6 @@
 -- The one outcome of each public call of the bidirectional solver. Assumes nothing.
 use Prim.Native.Nat.{ℕ}
-use mathlib.Core.Bool.{Bool, true, false}
+use mathlib.Core.Bool.{Bool}
 use mathlib.Core.List.{List, [], _∷_}
 use lib.ListN.{replicate}
 use lib.Ieee.{Float}
@@ -11,25 +11,12 @@ use Rattle.refusals.specs.Calls.{Left, left, call}
 use Rattle.refusals.specs.declared.Settings.{Settings}
 use Rattle.rules.specs.Ways.{forward, backward}
 use Rattle.rules.specs.Rules.{State, unwatched}
-use Rattle.rules.specs.Answers.{Method, neither, backwardAlone, forwardAlone, both, method, answerBy}
+use Rattle.rules.specs.Answers.{Method, both, method, answerBy}
 use Rattle.calls.specs.declared.Scored.{Scored}
 use Rattle.calls.specs.Lent.{scoredOf}
 use Rattle.calls.specs.Outcomes.{Given, ends}
+use Rattle.combination.specs.Methods.{usesForward, usesBackward}
 use Rattle.bidirectional_push.specs.Lent.{Pairs}
-
--- whether the forward solve is used
-unfoldable pub usesForward : Method → Bool
-usesForward neither = false
-usesForward backwardAlone = false
-usesForward forwardAlone = true
-usesForward both = true
-
--- whether the backward solve is
-unfoldable pub usesBackward : Method → Bool
-usesBackward neither = false
-usesBackward backwardAlone = true
-usesBackward forwardAlone = false
-usesBackward both = true
 
 -- a vector of a pair that is used, among n nodes; one that is not is filled with +0
 abbrev pub whereUsed : Bool → ℕ → List Float → List Float

@@ -1,9 +1,2 @@
-// The bidirectional solver below its public calls with rows and with links.
-pub mod methods;
+// The bidirectional solver below its public calls with rows; `bidirectional_links` has what is below those with links.
 pub mod rows;
-
-// Which solves are used.
-pub struct Uses {
-    pub forward: bool,
-    pub backward: bool,
-}

@@ -11,9 +11,9 @@ ghost use Rattle.calls.specs.Promises.{Fits};
 ghost use Rattle.backward_push.specs.Lent.{backLent};
 ghost use Rattle.bidirectional_push.specs.Lent.{bothLent, joining};
 ghost use Rattle.bidirectional_push.specs.Promises.{Joins, ChecksBoth};
-use crate::methods;
 use backward_push::reversed;
 use calls::Scored;
+use combination::methods;
 use refusals::Settings;
 use solver::Watch;
 

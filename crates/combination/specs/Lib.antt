@@ -1,2 +1,3 @@
--- The definitions that the contract of the combination cites.
+-- The definitions that the contracts of the combination cite.
 pub mod Outcomes
+pub mod Methods

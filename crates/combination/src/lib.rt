@@ -1,9 +1,17 @@
 // A forward and a backward solve combined: a public call, and what the bidirectional calls share with it.
+pub mod methods;
+
 ghost use mathlib.Core.Path.{_≡_};
 ghost use lib.ListN.{length};
 ghost use Rattle.rules.specs.Answers.{combined};
 ghost use Rattle.combination.specs.Outcomes.{combining};
 use calls::Scored;
+
+// Which solves are used.
+pub struct Uses {
+    pub forward: bool,
+    pub backward: bool,
+}
 
 // From +0, per node in order: the product of the estimates, and then each residual times the other's estimate times
 // alpha, the backward residual first.

@@ -1,9 +1,9 @@
--- `bidirectional_push::methods::score` meets its contract, case by case. Assumes nothing.
+-- `combination::methods::score` meets its contract, case by case. Assumes nothing.
 use Rattle.numbers.specs.Choice.{if_then_else_}
-use Rattle.bidirectional_push.specs.Promises.{scoreBy}
+use Rattle.combination.specs.Methods.{scoreBy}
 use borrow.Author.Needs.{needs}
-use Rattle.bidirectional_push.proofs.methods.score.Statement.{statement}
-use Rattle.bidirectional_push.proofs.methods.score.Tie as tie
+use Rattle.combination.proofs.methods.score.Statement.{statement}
+use Rattle.combination.proofs.methods.score.Tie as tie
 
 combine-requires : tie.Need-combine-requires
 combine-requires c κs = search needs

@@ -3,9 +3,9 @@ ghost use mathlib.Core.Path.{_≡_};
 ghost use mathlib.Core.List.{[]};
 ghost use lib.ListN.{length};
 ghost use Rattle.numbers.specs.Choice.{if_then_else_};
-ghost use Rattle.bidirectional_push.specs.Promises.{methodBy, Follows, scoreBy};
+ghost use Rattle.combination.specs.Methods.{methodBy, Follows, scoreBy};
 use crate::Uses;
-use combination::combine;
+use crate::combine;
 
 // Both solves or, in adaptive mode, those that the degrees of source and target speak for.
 pub fn choose(

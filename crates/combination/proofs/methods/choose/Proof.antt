@@ -1,4 +1,4 @@
--- `bidirectional_push::methods::choose` meets its contract, case by case. Assumes nothing.
+-- `combination::methods::choose` meets its contract, case by case. Assumes nothing.
 use mathlib.Core.Bool.{Bool, true, false, not, _||_}
 use mathlib.Core.Path.{refl}
 use native.Mathlib.Omega.{arith}
@@ -12,11 +12,10 @@ use Rattle.numbers.specs.Choice.{if_then_else_}
 use Rattle.numbers.proofs.Tests.{both as all}
 use Rattle.rules.specs.Rules.{at}
 use Rattle.rules.specs.Answers.{backwardAlone, forwardAlone, both, byDegrees}
-use Rattle.bidirectional_push.specs.Outcomes.{usesForward, usesBackward}
-use Rattle.bidirectional_push.specs.Promises.{methodBy, Follows}
+use Rattle.combination.specs.Methods.{usesForward, usesBackward, methodBy, Follows}
 use borrow.Author.Needs.{needs}
-use Rattle.bidirectional_push.proofs.methods.choose.Statement.{statement}
-use Rattle.bidirectional_push.proofs.methods.choose.Tie as tie
+use Rattle.combination.proofs.methods.choose.Statement.{statement}
+use Rattle.combination.proofs.methods.choose.Tie as tie
 
 -- what the two comparisons choose
 by-degrees : (b f : Bool) → Follows (record { forward = not b; backward = b || not f }) (if b then backwardAlone else (if f then forwardAlone else both))

@@ -1,8 +1,8 @@
--- `bidirectional_push::methods::list_if_used` meets its contract. Assumes nothing.
+-- `combination::methods::list_if_used` meets its contract. Assumes nothing.
 use Rattle.numbers.specs.Choice.{if_then_else_}
 use borrow.Author.Needs.{needs}
-use Rattle.bidirectional_push.proofs.methods.list_if_used.Statement.{statement}
-use Rattle.bidirectional_push.proofs.methods.list_if_used.Tie as tie
+use Rattle.combination.proofs.methods.list_if_used.Statement.{statement}
+use Rattle.combination.proofs.methods.list_if_used.Tie as tie
 
 returns : tie.Need-returns
 unfolding if_then_else_
