@@ -18,10 +18,10 @@ use Rattle.calls.specs.Outcomes.{Given, givenRows, givenLinks, ends, unmeasured
 use Rattle.calls.specs.Promises.{Checks}
 use Rattle.calls.proofs.Left.{no-further}
 use Rattle.calls.proofs.Asked.{rows-asked, links-asked}
-use Rattle.calls.proofs.After.{rows-after, links-after}
+use Rattle.calls.proofs.Vectors.{LeftVectors, rows-vectors, links-vectors, besides-vectors}
 use Rattle.backward_push.specs.Lent.{BackLent, backLengths, reversing, ReachLent, reachLent, reaching}
 use Rattle.backward_push.specs.Outcomes.{reachabilityProbabilities}
-use Rattle.backward_push.proofs.Reversing.{back-estimate, back-residual}
+use Rattle.backward_push.proofs.Reversing.{backward-vectors}
 
 module _ {B : Type 0} where
   -- a solve that is done was not refused
@@ -52,13 +52,12 @@ module _ {B C : Type 0} (wrap : List Float → B → C) where
   reach-by (suc k) g s old answer h d e = absurd (omega arith)
 
   -- with the answer worked out of the two vectors, which stand where `estimateOf` and `residualOf` say
-  reach-done : (number : ℕ) (g : Given State B) (s : State) (alpha : Float) (n : ℕ) (old : List Float) {c : Counted} {b : B} {new : List Float} (estimateOf residualOf : B → List Float)
-      → estimateOf (g .after s) ≡ s .estimate → residualOf (g .after s) ≡ s .residual → left c b ≡ unmeasured number g s → c .refusal ≡ 0 → length (estimateOf b) ≡ n
-      → new ≡ extrapolated alpha (length (estimateOf b)) (estimateOf b) (residualOf b)
+  reach-done : (number : ℕ) (g : Given State B) (s : State) (alpha : Float) (n : ℕ) (old : List Float) {c : Counted} {b : B} {new : List Float} (w : LeftVectors g)
+      → left c b ≡ unmeasured number g s → c .refusal ≡ 0 → length (w .estimateOf b) ≡ n → new ≡ extrapolated alpha (length (w .estimateOf b)) (w .estimateOf b) (w .residualOf b)
       → left {A = ℕ} 0 (wrap new b) ≡ call number (λ k. k) (wrap old (g .before)) (left 0 (wrap (extrapolated alpha n (s .estimate) (s .residual)) (g .after s)))
-  reach-done number g s alpha n old estimateOf residualOf p q d h l e =
+  reach-done number g s alpha n old w d h l e =
       let b = done-lent number g s d h in
-      reach-by number g s old _ (done-number number g s d h) b (rw (l, ap estimateOf b ∙ p, ap residualOf b ∙ q) at e)
+      reach-by number g s old _ (done-number number g s d h) b (rw (l, ap (w .estimateOf) b ∙ w .estimate-after s, ap (w .residualOf) b ∙ w .residual-after s) at e)
 
 module _ (s : Settings) (target n : ℕ) (x : List Float) where
   -- ---- with rows
@@ -74,7 +73,7 @@ module _ (s : Settings) (target n : ℕ) (x : List Float) where
 
     module _ {c : Counted} {b : BackLent} (h : Checks backward given-rows s unwatched (target ∷ []) 0 0 (left c b)) where
       rows-counted : left c b ≡ unmeasured (given-rows .tests 0 or settings s) given-rows (ends backward given-rows s unwatched (target ∷ []))
-      rows-counted = no-further _ _ _ _ _ _ _ refl h
+      rows-counted = no-further refl h
 
       -- the lengths are as stated where it is done
       pub rows-reach-sized : c .refusal ≡ 0 → Sized n (length columns) 0 ((length x, n) ∷ backLengths n (length columns) b₀)
@@ -89,9 +88,7 @@ module _ (s : Settings) (target n : ℕ) (x : List Float) where
       unfolding reachabilityProbabilities givenRows ends
       rows-reach-done z l e =
           let t = ends backward given-rows s unwatched (target ∷ []) in
-          reach-done reachLent _ given-rows t (s .alpha) n x (λ b. b .solve .estimate) (λ b. b .solve .residual)
-          (rows-after reversing (λ (b : BackLent). b .solve .estimate) t _ (λ n m. back-estimate n m _ _) n starts columns weights b₀)
-          (rows-after reversing (λ (b : BackLent). b .solve .residual) t _ (λ n m. back-residual n m _ _) n starts columns weights b₀) rows-counted z l e
+          reach-done reachLent _ given-rows t (s .alpha) n x (rows-vectors (besides-vectors backward-vectors ((length x, n) ∷ [])) n starts columns weights b₀) rows-counted z l e
 
   -- ---- with a list of links
 
@@ -110,7 +107,7 @@ module _ (s : Settings) (target n : ℕ) (x : List Float) where
 
     module _ {c : Counted} {b : LinksLent BackLent} (h : Checks backward given-links s unwatched (target ∷ []) 0 0 (left c b)) where
       links-counted : left c b ≡ unmeasured (given-links .tests 0 or settings s) given-links (ends backward given-links s unwatched (target ∷ []))
-      links-counted = no-further _ _ _ _ _ _ _ refl h
+      links-counted = no-further refl h
 
       -- the lengths are as stated where it is done
       pub links-reach-sized : c .refusal ≡ 0 → Sized n (length from) 0 ((length x, n) ∷ backLengths n (length from) (b₀ .rest))
@@ -125,6 +122,4 @@ module _ (s : Settings) (target n : ℕ) (x : List Float) where
       unfolding reachabilityProbabilities givenLinks ends linksDone
       links-reach-done z l e =
           let t = ends backward given-links s unwatched (target ∷ []) in
-          reach-done reach-lent _ given-links t (s .alpha) n x (λ b. b .rest .solve .estimate) (λ b. b .rest .solve .residual)
-          (links-after reversing (λ (b : BackLent). b .solve .estimate) t _ (λ n m. back-estimate n m _ _) n from to weight b₀)
-          (links-after reversing (λ (b : BackLent). b .solve .residual) t _ (λ n m. back-residual n m _ _) n from to weight b₀) links-counted z l e
+          reach-done reach-lent _ given-links t (s .alpha) n x (links-vectors (besides-vectors backward-vectors ((length x, n) ∷ [])) n from to weight b₀) links-counted z l e

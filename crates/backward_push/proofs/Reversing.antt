@@ -16,9 +16,9 @@ use Rattle.rules.specs.Rules.{State}
 use Rattle.calls.specs.declared.Counted.{Counted}
 use Rattle.calls.specs.Lent.{SolveLent, solveDone}
 use Rattle.calls.specs.Promises.{countedIn}
-use Rattle.calls.proofs.After.{done-estimate, done-residual}
+use Rattle.calls.proofs.Vectors.{Vectors, done-estimate, done-residual}
 use Rattle.calls.proofs.Directed.{Directed, sums-long, sums-are}
-use Rattle.backward_push.specs.Lent.{backLent, backDone}
+use Rattle.backward_push.specs.Lent.{backLent, backDone, reversing}
 use Rattle.backward_push.specs.Promises.{Reversed}
 
 -- the rows of the direction are the reverse ones
@@ -54,6 +54,16 @@ module _ (n m : ℕ) (estimate residual : List Float) where
   pub back-residual : backDone n m (solveDone n estimate residual) .solve .residual ≡ residual
   unfolding backDone
   back-residual = done-residual n estimate residual
+
+-- and so in what a backward call is lent
+abbrev pub backward-vectors : Vectors reversing
+backward-vectors =
+    record {
+      estimateOf = λ b. b .solve .estimate;
+      residualOf = λ b. b .solve .residual;
+      estimate-done = λ s n m. back-estimate n m (s .estimate) (s .residual);
+      residual-done = λ s n m. back-residual n m (s .estimate) (s .residual);
+    }
 
 -- rows that were made of links can be reversed, in buffers as long
 pub made-turnable : {n j : ℕ} {rows : List (List Entry)} {from to starts columns nodes starts′ columns′ positions nodes′ reverse-starts reverse-columns : List ℕ}

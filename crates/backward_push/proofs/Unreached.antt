@@ -14,20 +14,11 @@ use Rattle.rules.specs.Reach.{Reaches, SameReaching, keptLinks}
 use Rattle.calls.specs.declared.Solved.{Solved}
 use Rattle.calls.specs.Lent.{LinksLent}
 use Rattle.calls.specs.Outcomes.{givenLinks}
-use Rattle.calls.proofs.Unreached.{Vectors, SameLeft, links-vectors, links-no-score, links-same-scores}
+use Rattle.calls.proofs.Vectors.{links-vectors}
+use Rattle.calls.proofs.Unreached.{SameLeft, links-no-score, links-same-scores}
 use Rattle.backward_push.specs.Lent.{BackLent, reversing}
 use Rattle.backward_push.specs.Outcomes.{solveMultiTarget}
-use Rattle.backward_push.proofs.Reversing.{back-estimate, back-residual}
-
--- where the two vectors stand in what a backward call is lent
-abbrev pub backward-vectors : Vectors reversing
-backward-vectors =
-    record {
-      estimateOf = λ b. b .solve .estimate;
-      residualOf = λ b. b .solve .residual;
-      estimate-done = λ s n m. back-estimate n m (s .estimate) (s .residual);
-      residual-done = λ s n m. back-residual n m (s .estimate) (s .residual);
-    }
+use Rattle.backward_push.proofs.Reversing.{backward-vectors}
 
 module _ (n : ℕ) (targets : List ℕ) (s : Settings) (from to : List ℕ) (weight : List Float) (b : LinksLent BackLent) where
   -- A node that can reach no target is left with score and remainder +0.

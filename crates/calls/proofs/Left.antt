@@ -22,6 +22,7 @@ use Rattle.calls.specs.declared.Scored.{Scored}
 use Rattle.calls.specs.Lent.{countedOf, solvedOf, scoredOf, solveLent, solveDone}
 use Rattle.calls.specs.Outcomes.{Given, ends, unmeasured, solvedWith, Solves, queried}
 use Rattle.calls.specs.Promises.{Measured, Queried, SolveSettled, Settles, Checks, countedIn}
+use Rattle.calls.proofs.Vectors.{LeftVectors}
 
 -- what a settled solve leaves, with the degrees cleared
 pub settled-left : {meant : Way → Type 0} {f : Way → State} {n : ℕ} {r : Counted} {estimate residual degrees priorities : List Float} {nodes queued visited : List ℕ}
@@ -44,7 +45,7 @@ unfolding _or_
 or-nothing zero = refl
 or-nothing (suc a) = refl
 
-module _ {B : Type 0} (backward : Bool) (g : Given State B) (s : Settings) (watch : Watch) (sources : List ℕ) (listed further : ℕ) where
+module _ {B : Type 0} {backward : Bool} {g : Given State B} {s : Settings} {watch : Watch} {sources : List ℕ} {listed further : ℕ} where
   -- a call is refused: r, the number, is not 0
   pub call-refused : {r : ℕ} → r ≡ g .tests listed or settings s or further → (r ≡ 0 → ⊥) → Checks backward g s watch sources listed further (left (countedOf r 0 0) (g .before))
   unfolding unmeasured
@@ -66,19 +67,19 @@ module _ {B : Type 0} (backward : Bool) (g : Given State B) (s : Settings) (watc
   no-further e d = with-further e d ∙ ap (λ (k : ℕ). unmeasured (g .tests listed or k) g (ends backward g s watch sources)) (or-nothing (settings s))
 
 -- A solve's outcome is that before its norm was taken, with the norm of the residual that it left.
-pub solve-measured : {B : Type 0} (number : ℕ) (g : Given State B) (s : State) {c : Counted} {b : B} {x : Solved} (residualOf : B → List Float) → residualOf (g .after s) ≡ s .residual
-    → left c b ≡ unmeasured number g s → Measured c (residualOf b) x → Solves number g s (left x b)
+pub solve-measured : {B : Type 0} {number : ℕ} {g : Given State B} {s : State} {c : Counted} {b : B} {x : Solved} (w : LeftVectors g)
+    → left c b ≡ unmeasured number g s → Measured c (w .residualOf b) x → Solves number g s (left x b)
 unfolding unmeasured solvedWith call
-solve-measured zero g s {c} {b} {x} residualOf i d m =
+solve-measured {number = zero} {g} {s} {c} {b} {x} w d m =
     let z = ap (λ (y : Left Counted _). y .answer .refusal) d in
     record {
       norm = x .«residual_norm»;
-      is-norm = λ _. rw (ap (λ (y : Left Counted _). residualOf (y .lent)) d ∙ i) at (m .is-norm z);
+      is-norm = λ _. rw (ap (λ (y : Left Counted _). w .residualOf (y .lent)) d ∙ w .residual-after s) at (m .is-norm z);
       leaves =
           ap (λ (y : Solved). left y b) (m .done z)
           ∙ ap (λ (y : Left Counted _). left (solvedOf 0 (y .answer .«push_count») (y .answer .«nodes_visited») (x .«residual_norm»)) (y .lent)) d;
     }
-solve-measured (suc k) g s {c} {b} {x} residualOf i d m =
+solve-measured {number = suc k} {g} {s} {c} {b} {x} w d m =
     let z = ap (λ (y : Left Counted _). y .answer .refusal) d in
     record {
       norm = +0;
@@ -89,15 +90,15 @@ solve-measured (suc k) g s {c} {b} {x} residualOf i d m =
     }
 
 -- A query's outcome is that of its solve, with the score that the solve left.
-pub query-answered : {B : Type 0} (number : ℕ) (g : Given State B) (s : State) (v : ℕ) {c : Counted} {b : B} {x : Scored} (estimateOf : B → List Float) → estimateOf (g .after s) ≡ s .estimate
-    → left c b ≡ unmeasured number g s → Queried (c .refusal) (estimateOf b) v x → left x b ≡ queried number g s v
+pub query-answered : {B : Type 0} (number : ℕ) {g : Given State B} (s : State) {v : ℕ} {c : Counted} {b : B} {x : Scored} (w : LeftVectors g)
+    → left c b ≡ unmeasured number g s → Queried (c .refusal) (w .estimateOf b) v x → left x b ≡ queried number g s v
 unfolding unmeasured queried call scoreAt
-query-answered zero g s v {c} {b} estimateOf i d m =
+query-answered zero {g} s {v} {c} {b} w d m =
     let z = ap (λ (y : Left Counted _). y .answer .refusal) d in
     ap (λ (y : Scored). left y b) (m .done z)
-    ∙ ap (λ (y : Left Counted _). left (scoredOf 0 (getD (estimateOf (y .lent)) v +0)) (y .lent)) d
-    ∙ ap (λ (xs : List Float). left (scoredOf 0 (getD xs v +0)) (g .after s)) i
-query-answered (suc k) g s v {c} {b} estimateOf i d m =
+    ∙ ap (λ (y : Left Counted _). left (scoredOf 0 (getD (w .estimateOf (y .lent)) v +0)) (y .lent)) d
+    ∙ ap (λ (xs : List Float). left (scoredOf 0 (getD xs v +0)) (g .after s)) (w .estimate-after s)
+query-answered (suc k) {g} s {v} {c} {b} w d m =
     let z = ap (λ (y : Left Counted _). y .answer .refusal) d in
     ap (λ (y : Scored). left y b) (m .refused (λ h. absurd (omega arith))) ∙ ap (λ (y : Left Counted _). left (scoredOf (y .answer .refusal) +0) (y .lent)) d
 

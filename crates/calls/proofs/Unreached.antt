@@ -17,56 +17,9 @@ use Rattle.rules.specs.Answers.{visitedCount}
 use Rattle.rules.specs.Reach.{Connected, SameConnected, keptLinks, Alike, Untouched}
 use Rattle.rules.proofs.Unreached.{rows-kept, unreached-rows, unreaching-rows, forward-rows, backward-rows}
 use Rattle.calls.specs.declared.Solved.{Solved}
-use Rattle.calls.specs.Lent.{Lending, LinksLent, solvedOf, solving}
-use Rattle.calls.specs.Outcomes.{Given, givenLinks, givenRows, ends, solvedWith, Solves}
-use Rattle.calls.proofs.After.{done-estimate, done-residual, rows-after, links-after}
-
--- ---- where the two vectors stand
-
--- in what a kind of call is lent
-pub record Vectors {B : Type 0} (k : Lending State B) : Type 0 where
-  pub estimateOf : B → List Float
-  pub residualOf : B → List Float
-  pub estimate-done : (s : State) (n m : ℕ) → estimateOf (k .done n m s) ≡ s .estimate
-  pub residual-done : (s : State) (n m : ℕ) → residualOf (k .done n m s) ≡ s .residual
-
--- in what a call leaves
-pub record LeftVectors {B : Type 0} (g : Given State B) : Type 0 where
-  pub estimateOf : B → List Float
-  pub residualOf : B → List Float
-  pub estimate-after : (s : State) → estimateOf (g .after s) ≡ s .estimate
-  pub residual-after : (s : State) → residualOf (g .after s) ≡ s .residual
-
-module _ {B : Type 0} {k : Lending State B} (w : Vectors k) where
-  -- with rows
-  abbrev pub rows-vectors : (n : ℕ) (starts columns : List ℕ) (weights : List Float) (b : B) → LeftVectors (givenRows k n starts columns weights b)
-  rows-vectors n starts columns weights b =
-      record {
-        estimateOf = w .estimateOf;
-        residualOf = w .residualOf;
-        estimate-after = λ s. rows-after k (w .estimateOf) s _ (w .estimate-done s) n starts columns weights b;
-        residual-after = λ s. rows-after k (w .residualOf) s _ (w .residual-done s) n starts columns weights b;
-      }
-
-  -- with a list of links
-  abbrev pub links-vectors : (n : ℕ) (from to : List ℕ) (weight : List Float) (b : LinksLent B) → LeftVectors (givenLinks k n from to weight b)
-  links-vectors n from to weight b =
-      record {
-        estimateOf = λ x. w .estimateOf (x .rest);
-        residualOf = λ x. w .residualOf (x .rest);
-        estimate-after = λ s. links-after k (w .estimateOf) s _ (w .estimate-done s) n from to weight b;
-        residual-after = λ s. links-after k (w .residualOf) s _ (w .residual-done s) n from to weight b;
-      }
-
--- in what a forward call is lent
-abbrev pub forward-vectors : Vectors solving
-forward-vectors =
-    record {
-      estimateOf = λ b. b .estimate;
-      residualOf = λ b. b .residual;
-      estimate-done = λ s n m. done-estimate n (s .estimate) (s .residual);
-      residual-done = λ s n m. done-residual n (s .estimate) (s .residual);
-    }
+use Rattle.calls.specs.Lent.{Lending, LinksLent, solvedOf}
+use Rattle.calls.specs.Outcomes.{Given, givenLinks, ends, solvedWith, Solves}
+use Rattle.calls.proofs.Vectors.{Vectors, LeftVectors, links-vectors}
 
 -- the rows that a list of links gives a call are its kept links
 pub given-kept : {S B : Type 0} (k : Lending S B) (n : ℕ) (from to : List ℕ) (weight : List Float) (b : LinksLent B)

@@ -14,7 +14,8 @@ use Rattle.rules.specs.Reach.{Reached, SameReached, keptLinks}
 use Rattle.calls.specs.declared.Solved.{Solved}
 use Rattle.calls.specs.Lent.{SolveLent, LinksLent, solving}
 use Rattle.calls.specs.Outcomes.{givenLinks}
-use Rattle.calls.proofs.Unreached.{SameLeft, forward-vectors, links-vectors, links-no-score, links-same-scores}
+use Rattle.calls.proofs.Vectors.{forward-vectors, links-vectors}
+use Rattle.calls.proofs.Unreached.{SameLeft, links-no-score, links-same-scores}
 use Rattle.forward_push.specs.Outcomes.{solveMultiSource}
 
 module _ (n : ℕ) (sources : List ℕ) (s : Settings) (from to : List ℕ) (weight : List Float) (b : LinksLent SolveLent) where

@@ -17,7 +17,7 @@ use Rattle.rules.specs.Rules.{State}
 use Rattle.calls.specs.declared.Solved.{Solved}
 use Rattle.calls.specs.Lent.{SolveLent, LinksLent, solveLengths, solving}
 use Rattle.calls.specs.Outcomes.{Given, givenLinks, ends, solvedWith}
-use Rattle.calls.proofs.After.{done-estimate, done-residual, links-after}
+use Rattle.calls.proofs.Vectors.{LeftVectors, forward-vectors, links-vectors}
 use Rattle.forward_push.specs.Outcomes.{solveMultiSource}
 use Rattle.job_fields.specs.Fields.{wordsAt, floatsAt}
 use Rattle.job_fields.specs.Shape.{nodesIn, linksIn, sourcesIn, shaped}
@@ -44,13 +44,12 @@ alike-lengths [] h = refl
 alike-lengths (p ∷ ps) h = rw (eq-eqb (p .0) (p .1) (h .0)) (alike-lengths ps (h .1))
 
 -- the answer's text, by the solve's first number and the state that it ends in
-answer-text : {B : Type 0} (number : ℕ) (g : Given State B) (s : State) (norm : Float) (estimateOf residualOf : B → List Float)
-    → estimateOf (g .after s) ≡ s .estimate → residualOf (g .after s) ≡ s .residual → {r : Solved} {b : B} → left r b ≡ solvedWith number g s norm
-    → answerText r (estimateOf b) (residualOf b) ≡ refusedOr number (doneText s norm)
+answer-text : {B : Type 0} (number : ℕ) (g : Given State B) (s : State) (norm : Float) (w : LeftVectors g) {r : Solved} {b : B} → left r b ≡ solvedWith number g s norm
+    → answerText r (w .estimateOf b) (w .residualOf b) ≡ refusedOr number (doneText s norm)
 unfolding solvedWith call refusedOr
-answer-text {B} zero g s norm estimateOf residualOf he hr e =
-    ap (λ (x : Left Solved B). answerText (x .answer) (estimateOf (x .lent)) (residualOf (x .lent))) e ∙ rw (he, hr)
-answer-text {B} (suc k) g s norm estimateOf residualOf he hr e = ap (λ (x : Left Solved B). answerText (x .answer) (estimateOf (x .lent)) (residualOf (x .lent))) e
+answer-text {B} zero g s norm w e =
+    ap (λ (x : Left Solved B). answerText (x .answer) (w .estimateOf (x .lent)) (w .residualOf (x .lent))) e ∙ rw (w .estimate-after s, w .residual-after s)
+answer-text {B} (suc k) g s norm w e = ap (λ (x : Left Solved B). answerText (x .answer) (w .estimateOf (x .lent)) (w .residualOf (x .lent))) e
 
 module _ (n : ℕ) (from to : List ℕ) (weight : List Float) (sources : List ℕ) (s : Settings) where
   -- all lengths are as stated
@@ -80,10 +79,7 @@ module _ (n : ℕ) (from to : List ℕ) (weight : List Float) (sources : List �
               norm = solves .norm;
               is-norm = λ h. solves .is-norm (number-is b l r v ∙ h);
               is-text =
-                  answer-text (givenLinks solving n from to weight b .tests (length sources) or settings s) (givenLinks solving n from to weight b) (end j) (solves .norm) (λ x. x .rest .estimate) (λ x. x .rest .residual)
-                  (links-after solving (λ (x : SolveLent). x .estimate) (end j) (end j .estimate) (λ n m. done-estimate n (end j .estimate) (end j .residual)) n from to weight b)
-                  (links-after solving (λ (x : SolveLent). x .residual) (end j) (end j .residual) (λ n m. done-residual n (end j .estimate) (end j .residual)) n from to weight b)
-                  (solves .leaves)
+                  answer-text _ (givenLinks solving n from to weight b) (end j) (solves .norm) (links-vectors forward-vectors n from to weight b) (solves .leaves)
                   ∙ ap (λ (x : ℕ). refusedOr x (doneText (end j) (solves .norm))) (number-is b l r v);
             };
         grown = grown;

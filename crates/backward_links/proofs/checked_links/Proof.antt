@@ -40,7 +40,7 @@ or-requires-2 c κs = search needs
 
 returns : tie.Need-returns
 unfolding givenLinks
-returns c more e = call-refused _ _ _ _ _ _ _ (number (c .before) more e) (c .if1 .taken)
+returns c more e = call-refused (number (c .before) more e) (c .if1 .taken)
 
 solve-links-requires : tie.Need-solve-links-requires
 solve-links-requires c κs =
@@ -96,7 +96,7 @@ same-length-14 : tie.Need-same-length-14
 same-length-14 c = c .before .before .before .before .before .before .before .before .before .before .before .before .before .before .before .before .before .before .before .before .before .before .before .before .before .before .before .before .solve-links .kept .1 .1 .1 .1 .1 .1 .1 .1 .1 .1 .1 .1 .1 .1 .1 .1 .1 .1 .1 .1 .0
 
 returns-2 : tie.Need-returns-2
-returns-2 c more e = call-done _ _ _ _ _ _ _ (number (c .before .before .before .before .before .before .before .before .before .before .before .before .before .before .before .before .before .before .before .before .before .before .before .before .before .before .before .before .before .before .before .before .before .before .before .before .before .before .before .before .before .before .before .before) more e) (c .before .before .before .before .before .before .before .before .before .before .before .before .before .before .before .before .before .before .before .before .before .before .before .before .before .before .before .before .before .before .before .before .before .before .before .before .before .before .before .before .before .before .before .if1 .left) (links-besides reversing more _ _ _ _ _ _ _ _ _ (c .before .before .before .before .before .before .before .before .before .before .before .before .before .before .before .before .before .before .before .before .before .before .before .before .before .before .before .before .solve-links .ensures))
+returns-2 c more e = call-done (number (c .before .before .before .before .before .before .before .before .before .before .before .before .before .before .before .before .before .before .before .before .before .before .before .before .before .before .before .before .before .before .before .before .before .before .before .before .before .before .before .before .before .before .before .before) more e) (c .before .before .before .before .before .before .before .before .before .before .before .before .before .before .before .before .before .before .before .before .before .before .before .before .before .before .before .before .before .before .before .before .before .before .before .before .before .before .before .before .before .before .before .if1 .left) (links-besides reversing more _ _ _ _ _ _ _ _ _ (c .before .before .before .before .before .before .before .before .before .before .before .before .before .before .before .before .before .before .before .before .before .before .before .before .before .before .before .before .solve-links .ensures))
 
 pub checked-links-spec : {M : Type 1} → statement M
 checked-links-spec =

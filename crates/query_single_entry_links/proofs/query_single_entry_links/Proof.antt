@@ -2,9 +2,8 @@
 use mathlib.Core.Path.{refl}
 use native.Mathlib.Omega.{arith}
 use Rattle.solver.specs.Watching.{watchIn}
-use Rattle.calls.specs.Lent.{SolveLent, solving}
 use Rattle.calls.proofs.Left.{no-further, query-answered}
-use Rattle.calls.proofs.After.{done-estimate, links-after}
+use Rattle.calls.proofs.Vectors.{forward-vectors, links-vectors}
 use borrow.Author.Needs.{needs}
 use Rattle.query_single_entry_links.proofs.query_single_entry_links.Statement.{statement}
 use Rattle.query_single_entry_links.proofs.query_single_entry_links.Tie as tie
@@ -50,7 +49,7 @@ same-length-10 c = c .before .before .before .before .before .before .before .be
 
 returns : tie.Need-returns
 unfolding watchIn
-returns c = query-answered _ _ _ _ (λ b. b .rest .estimate) (links-after solving (λ (b : SolveLent). b .estimate) _ _ (λ n m. done-estimate n _ _) _ _ _ _ _) (no-further _ _ _ _ _ _ _ refl (c .before .before .before .before .before .before .before .before .before .before .before .before .before .before .before .before .before .before .before .before .before .before .checked-links .ensures)) (c .answered .ensures)
+returns c = query-answered _ _ (links-vectors forward-vectors _ _ _ _ _) (no-further refl (c .before .before .before .before .before .before .before .before .before .before .before .before .before .before .before .before .before .before .before .before .before .before .checked-links .ensures)) (c .answered .ensures)
 
 pub query-single-entry-links-spec : {M : Type 1} → statement M
 query-single-entry-links-spec =

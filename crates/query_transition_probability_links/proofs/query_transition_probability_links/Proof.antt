@@ -4,10 +4,9 @@ use mathlib.Core.Path.{refl}
 use native.Mathlib.Omega.{arith}
 use Rattle.solver.specs.Watching.{watchIn}
 use Rattle.calls.proofs.Left.{no-further, query-answered}
-use Rattle.calls.proofs.After.{links-after}
+use Rattle.calls.proofs.Vectors.{links-vectors}
 use Rattle.calls.proofs.Lengths.{none-besides}
-use Rattle.backward_push.specs.Lent.{BackLent, reversing}
-use Rattle.backward_push.proofs.Reversing.{back-estimate}
+use Rattle.backward_push.proofs.Reversing.{backward-vectors}
 use borrow.Author.Needs.{needs}
 use Rattle.query_transition_probability_links.proofs.query_transition_probability_links.Statement.{statement}
 use Rattle.query_transition_probability_links.proofs.query_transition_probability_links.Tie as tie
@@ -66,8 +65,8 @@ same-length-14 c = c .before .before .before .before .before .before .before .be
 returns : tie.Need-returns
 unfolding watchIn
 returns c =
-    query-answered _ _ _ _ (λ b. b .rest .solve .estimate) (links-after reversing (λ (b : BackLent). b .solve .estimate) _ _ (λ n m. back-estimate n m _ _) _ _ _ _ _)
-    (no-further _ _ _ _ _ _ _ refl (c .before .before .before .before .before .before .before .before .before .before .before .before .before .before .before .before .before .before .before .before .before .before .before .before .before .before .before .before .before .before .checked-links .ensures [] none-besides))
+    query-answered _ _ (links-vectors backward-vectors _ _ _ _ _)
+    (no-further refl (c .before .before .before .before .before .before .before .before .before .before .before .before .before .before .before .before .before .before .before .before .before .before .before .before .before .before .before .before .before .before .checked-links .ensures [] none-besides))
     (c .answered .ensures)
 
 pub query-transition-probability-links-spec : {M : Type 1} → statement M

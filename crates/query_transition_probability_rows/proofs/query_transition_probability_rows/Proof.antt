@@ -4,10 +4,9 @@ use mathlib.Core.Path.{refl}
 use native.Mathlib.Omega.{arith}
 use Rattle.solver.specs.Watching.{watchIn}
 use Rattle.calls.proofs.Left.{no-further, query-answered}
-use Rattle.calls.proofs.After.{rows-after}
+use Rattle.calls.proofs.Vectors.{rows-vectors}
 use Rattle.calls.proofs.Lengths.{none-besides}
-use Rattle.backward_push.specs.Lent.{BackLent, reversing}
-use Rattle.backward_push.proofs.Reversing.{back-estimate}
+use Rattle.backward_push.proofs.Reversing.{backward-vectors}
 use borrow.Author.Needs.{needs}
 use Rattle.query_transition_probability_rows.proofs.query_transition_probability_rows.Statement.{statement}
 use Rattle.query_transition_probability_rows.proofs.query_transition_probability_rows.Tie as tie
@@ -57,8 +56,8 @@ same-length-11 c = c .before .before .before .before .before .before .before .be
 returns : tie.Need-returns
 unfolding watchIn
 returns c =
-    query-answered _ _ _ _ (λ b. b .solve .estimate) (rows-after reversing (λ (b : BackLent). b .solve .estimate) _ _ (λ n m. back-estimate n m _ _) _ _ _ _ _)
-    (no-further _ _ _ _ _ _ _ refl (c .before .before .before .before .before .before .before .before .before .before .before .before .before .before .before .before .before .before .before .before .before .before .before .before .checked-rows .ensures [] none-besides))
+    query-answered _ _ (rows-vectors backward-vectors _ _ _ _ _)
+    (no-further refl (c .before .before .before .before .before .before .before .before .before .before .before .before .before .before .before .before .before .before .before .before .before .before .before .before .checked-rows .ensures [] none-besides))
     (c .answered .ensures)
 
 pub query-transition-probability-rows-spec : {M : Type 1} → statement M

@@ -1,9 +1,8 @@
 -- `solve_multi_source_rows` meets its contract: what `checked_rows` leaves, and the norm. Assumes nothing.
 use mathlib.Core.Path.{refl}
 use Rattle.solver.specs.Watching.{watchIn}
-use Rattle.calls.specs.Lent.{SolveLent, solving}
 use Rattle.calls.proofs.Left.{no-further, solve-measured}
-use Rattle.calls.proofs.After.{done-residual, rows-after}
+use Rattle.calls.proofs.Vectors.{forward-vectors, rows-vectors}
 use borrow.Author.Needs.{needs}
 use Rattle.solve_multi_source_rows.proofs.solve_multi_source_rows.Statement.{statement}
 use Rattle.solve_multi_source_rows.proofs.solve_multi_source_rows.Tie as tie
@@ -37,7 +36,7 @@ same-length-7 c = c .before .before .before .before .before .before .before .bef
 
 returns : tie.Need-returns
 unfolding watchIn
-returns c = solve-measured _ _ _ (λ b. b .residual) (rows-after solving (λ (b : SolveLent). b .residual) _ _ (λ n m. done-residual n _ _) _ _ _ _ _) (no-further _ _ _ _ _ _ _ refl (c .before .before .before .before .before .before .before .before .before .before .before .before .before .before .before .before .checked-rows .ensures)) (c .measured .ensures)
+returns c = solve-measured (rows-vectors forward-vectors _ _ _ _ _) (no-further refl (c .before .before .before .before .before .before .before .before .before .before .before .before .before .before .before .before .checked-rows .ensures)) (c .measured .ensures)
 
 pub solve-multi-source-rows-spec : {M : Type 1} → statement M
 solve-multi-source-rows-spec =

@@ -3,10 +3,9 @@ use mathlib.Core.List.{[]}
 use mathlib.Core.Path.{refl}
 use Rattle.solver.specs.Watching.{watchIn}
 use Rattle.calls.proofs.Left.{no-further, solve-measured}
-use Rattle.calls.proofs.After.{links-after}
+use Rattle.calls.proofs.Vectors.{links-vectors}
 use Rattle.calls.proofs.Lengths.{none-besides}
-use Rattle.backward_push.specs.Lent.{BackLent, reversing}
-use Rattle.backward_push.proofs.Reversing.{back-residual}
+use Rattle.backward_push.proofs.Reversing.{backward-vectors}
 use borrow.Author.Needs.{needs}
 use Rattle.solve_multi_target_links.proofs.solve_multi_target_links.Statement.{statement}
 use Rattle.solve_multi_target_links.proofs.solve_multi_target_links.Tie as tie
@@ -62,8 +61,8 @@ same-length-14 c = c .before .before .before .before .before .before .before .be
 returns : tie.Need-returns
 unfolding watchIn
 returns c =
-    solve-measured _ _ _ (λ b. b .rest .solve .residual) (links-after reversing (λ (b : BackLent). b .solve .residual) _ _ (λ n m. back-residual n m _ _) _ _ _ _ _)
-    (no-further _ _ _ _ _ _ _ refl (c .before .before .before .before .before .before .before .before .before .before .before .before .before .before .before .before .before .before .before .before .before .before .before .before .before .before .before .before .before .before .checked-links .ensures [] none-besides))
+    solve-measured (links-vectors backward-vectors _ _ _ _ _)
+    (no-further refl (c .before .before .before .before .before .before .before .before .before .before .before .before .before .before .before .before .before .before .before .before .before .before .before .before .before .before .before .before .before .before .checked-links .ensures [] none-besides))
     (c .measured .ensures)
 
 pub solve-multi-target-links-spec : {M : Type 1} → statement M

@@ -2,9 +2,8 @@
 use mathlib.Core.Path.{refl}
 use native.Mathlib.Omega.{arith}
 use Rattle.solver.specs.Watching.{watchIn}
-use Rattle.calls.specs.Lent.{SolveLent, solving}
 use Rattle.calls.proofs.Left.{no-further, solve-measured}
-use Rattle.calls.proofs.After.{done-residual, links-after}
+use Rattle.calls.proofs.Vectors.{forward-vectors, links-vectors}
 use borrow.Author.Needs.{needs}
 use Rattle.solve_single_source_links.proofs.solve_single_source_links.Statement.{statement}
 use Rattle.solve_single_source_links.proofs.solve_single_source_links.Tie as tie
@@ -50,7 +49,7 @@ same-length-10 c = c .before .before .before .before .before .before .before .be
 
 returns : tie.Need-returns
 unfolding watchIn
-returns c = solve-measured _ _ _ (λ b. b .rest .residual) (links-after solving (λ (b : SolveLent). b .residual) _ _ (λ n m. done-residual n _ _) _ _ _ _ _) (no-further _ _ _ _ _ _ _ refl (c .before .before .before .before .before .before .before .before .before .before .before .before .before .before .before .before .before .before .before .before .before .before .checked-links .ensures)) (c .measured .ensures)
+returns c = solve-measured (links-vectors forward-vectors _ _ _ _ _) (no-further refl (c .before .before .before .before .before .before .before .before .before .before .before .before .before .before .before .before .before .before .before .before .before .before .checked-links .ensures)) (c .measured .ensures)
 
 pub solve-single-source-links-spec : {M : Type 1} → statement M
 solve-single-source-links-spec =

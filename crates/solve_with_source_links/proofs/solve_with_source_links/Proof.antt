@@ -3,10 +3,9 @@ use mathlib.Core.List.{[]}
 use native.Mathlib.Omega.{arith}
 use Rattle.solver.specs.Watching.{watchIn}
 use Rattle.calls.proofs.Left.{with-further, solve-measured}
-use Rattle.calls.proofs.After.{links-after}
+use Rattle.calls.proofs.Vectors.{links-vectors}
 use Rattle.calls.proofs.Lengths.{none-besides}
-use Rattle.backward_push.specs.Lent.{BackLent, reversing}
-use Rattle.backward_push.proofs.Reversing.{back-residual}
+use Rattle.backward_push.proofs.Reversing.{backward-vectors}
 use borrow.Author.Needs.{needs}
 use Rattle.solve_with_source_links.proofs.solve_with_source_links.Statement.{statement}
 use Rattle.solve_with_source_links.proofs.solve_with_source_links.Tie as tie
@@ -68,8 +67,8 @@ same-length-14 c = c .before .before .before .before .before .before .before .be
 returns : tie.Need-returns
 unfolding watchIn
 returns c =
-    solve-measured _ _ _ (λ b. b .rest .solve .residual) (links-after reversing (λ (b : BackLent). b .solve .residual) _ _ (λ n m. back-residual n m _ _) _ _ _ _ _)
-    (with-further _ _ _ _ _ _ _ (c .before .before .before .before .before .before .before .before .before .before .before .before .before .before .before .before .before .before .before .before .before .before .before .before .before .before .before .before .before .before .before .before .before .before .before .before .before .before .before .before .before .before .before .before .before .before .refuse-precision .ensures) (c .before .before .before .before .before .before .before .before .before .before .before .before .before .before .before .before .before .before .before .before .before .before .before .before .before .before .before .before .before .before .checked-links .ensures [] none-besides))
+    solve-measured (links-vectors backward-vectors _ _ _ _ _)
+    (with-further (c .before .before .before .before .before .before .before .before .before .before .before .before .before .before .before .before .before .before .before .before .before .before .before .before .before .before .before .before .before .before .before .before .before .before .before .before .before .before .before .before .before .before .before .before .before .before .refuse-precision .ensures) (c .before .before .before .before .before .before .before .before .before .before .before .before .before .before .before .before .before .before .before .before .before .before .before .before .before .before .before .before .before .before .checked-links .ensures [] none-besides))
     (c .measured .ensures)
 
 pub solve-with-source-links-spec : {M : Type 1} → statement M

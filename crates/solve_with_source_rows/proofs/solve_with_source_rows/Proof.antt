@@ -3,10 +3,9 @@ use mathlib.Core.List.{[]}
 use native.Mathlib.Omega.{arith}
 use Rattle.solver.specs.Watching.{watchIn}
 use Rattle.calls.proofs.Left.{with-further, solve-measured}
-use Rattle.calls.proofs.After.{rows-after}
+use Rattle.calls.proofs.Vectors.{rows-vectors}
 use Rattle.calls.proofs.Lengths.{none-besides}
-use Rattle.backward_push.specs.Lent.{BackLent, reversing}
-use Rattle.backward_push.proofs.Reversing.{back-residual}
+use Rattle.backward_push.proofs.Reversing.{backward-vectors}
 use borrow.Author.Needs.{needs}
 use Rattle.solve_with_source_rows.proofs.solve_with_source_rows.Statement.{statement}
 use Rattle.solve_with_source_rows.proofs.solve_with_source_rows.Tie as tie
@@ -59,8 +58,8 @@ same-length-11 c = c .before .before .before .before .before .before .before .be
 returns : tie.Need-returns
 unfolding watchIn
 returns c =
-    solve-measured _ _ _ (λ b. b .solve .residual) (rows-after reversing (λ (b : BackLent). b .solve .residual) _ _ (λ n m. back-residual n m _ _) _ _ _ _ _)
-    (with-further _ _ _ _ _ _ _ (c .before .before .before .before .before .before .before .before .before .before .before .before .before .before .before .before .before .before .before .before .before .before .before .before .before .before .before .before .before .before .before .before .before .before .before .before .before .refuse-precision .ensures) (c .before .before .before .before .before .before .before .before .before .before .before .before .before .before .before .before .before .before .before .before .before .before .before .before .checked-rows .ensures [] none-besides))
+    solve-measured (rows-vectors backward-vectors _ _ _ _ _)
+    (with-further (c .before .before .before .before .before .before .before .before .before .before .before .before .before .before .before .before .before .before .before .before .before .before .before .before .before .before .before .before .before .before .before .before .before .before .before .before .before .refuse-precision .ensures) (c .before .before .before .before .before .before .before .before .before .before .before .before .before .before .before .before .before .before .before .before .before .before .before .before .checked-rows .ensures [] none-besides))
     (c .measured .ensures)
 
 pub solve-with-source-rows-spec : {M : Type 1} → statement M

@@ -1,9 +1,8 @@
 -- `solve_with_target_links` meets its contract: what `checked_links` leaves, and the norm. Assumes nothing.
 use native.Mathlib.Omega.{arith}
 use Rattle.solver.specs.Watching.{watchIn}
-use Rattle.calls.specs.Lent.{SolveLent, solving}
 use Rattle.calls.proofs.Left.{with-further, solve-measured}
-use Rattle.calls.proofs.After.{done-residual, links-after}
+use Rattle.calls.proofs.Vectors.{forward-vectors, links-vectors}
 use borrow.Author.Needs.{needs}
 use Rattle.solve_with_target_links.proofs.solve_with_target_links.Statement.{statement}
 use Rattle.solve_with_target_links.proofs.solve_with_target_links.Tie as tie
@@ -52,7 +51,7 @@ same-length-10 c = c .before .before .before .before .before .before .before .be
 
 returns : tie.Need-returns
 unfolding watchIn
-returns c = solve-measured _ _ _ (λ b. b .rest .residual) (links-after solving (λ (b : SolveLent). b .residual) _ _ (λ n m. done-residual n _ _) _ _ _ _ _) (with-further _ _ _ _ _ _ _ (c .before .before .before .before .before .before .before .before .before .before .before .before .before .before .before .before .before .before .before .before .before .before .before .before .before .before .before .before .before .before .before .before .before .before .refuse-precision .ensures) (c .before .before .before .before .before .before .before .before .before .before .before .before .before .before .before .before .before .before .before .before .before .before .checked-links .ensures)) (c .measured .ensures)
+returns c = solve-measured (links-vectors forward-vectors _ _ _ _ _) (with-further (c .before .before .before .before .before .before .before .before .before .before .before .before .before .before .before .before .before .before .before .before .before .before .before .before .before .before .before .before .before .before .before .before .before .before .refuse-precision .ensures) (c .before .before .before .before .before .before .before .before .before .before .before .before .before .before .before .before .before .before .before .before .before .before .checked-links .ensures)) (c .measured .ensures)
 
 pub solve-with-target-links-spec : {M : Type 1} → statement M
 solve-with-target-links-spec =

@@ -1,9 +1,8 @@
 -- `solve_with_target_rows` meets its contract: what `checked_rows` leaves, and the norm. Assumes nothing.
 use native.Mathlib.Omega.{arith}
 use Rattle.solver.specs.Watching.{watchIn}
-use Rattle.calls.specs.Lent.{SolveLent, solving}
 use Rattle.calls.proofs.Left.{with-further, solve-measured}
-use Rattle.calls.proofs.After.{done-residual, rows-after}
+use Rattle.calls.proofs.Vectors.{forward-vectors, rows-vectors}
 use borrow.Author.Needs.{needs}
 use Rattle.solve_with_target_rows.proofs.solve_with_target_rows.Statement.{statement}
 use Rattle.solve_with_target_rows.proofs.solve_with_target_rows.Tie as tie
@@ -43,7 +42,7 @@ same-length-7 c = c .before .before .before .before .before .before .before .bef
 
 returns : tie.Need-returns
 unfolding watchIn
-returns c = solve-measured _ _ _ (λ b. b .residual) (rows-after solving (λ (b : SolveLent). b .residual) _ _ (λ n m. done-residual n _ _) _ _ _ _ _) (with-further _ _ _ _ _ _ _ (c .before .before .before .before .before .before .before .before .before .before .before .before .before .before .before .before .before .before .before .before .before .before .before .before .before .refuse-precision .ensures) (c .before .before .before .before .before .before .before .before .before .before .before .before .before .before .before .before .checked-rows .ensures)) (c .measured .ensures)
+returns c = solve-measured (rows-vectors forward-vectors _ _ _ _ _) (with-further (c .before .before .before .before .before .before .before .before .before .before .before .before .before .before .before .before .before .before .before .before .before .before .before .before .before .refuse-precision .ensures) (c .before .before .before .before .before .before .before .before .before .before .before .before .before .before .before .before .checked-rows .ensures)) (c .measured .ensures)
 
 pub solve-with-target-rows-spec : {M : Type 1} → statement M
 solve-with-target-rows-spec =

@@ -41,7 +41,7 @@ or-requires-2 c κs = search needs
 
 returns : tie.Need-returns
 unfolding givenRows
-returns c more e = call-refused _ _ _ _ _ _ _ (number (c .before) more e) (c .if1 .taken)
+returns c more e = call-refused (number (c .before) more e) (c .if1 .taken)
 
 solve-rows-requires : tie.Need-solve-rows-requires
 solve-rows-requires c κs =
@@ -99,7 +99,7 @@ same-length-11 : tie.Need-same-length-11
 same-length-11 c = c .before .before .before .before .before .before .before .before .before .before .before .before .before .before .before .before .before .before .before .before .before .before .solve-rows .kept .1 .1 .1 .1 .1 .1 .1 .1 .1 .1 .1 .1 .1 .1 .1 .1 .1 .0
 
 returns-2 : tie.Need-returns-2
-returns-2 c more e = call-done _ _ _ _ _ _ _ (number (c .before .before .before .before .before .before .before .before .before .before .before .before .before .before .before .before .before .before .before .before .before .before .before .before .before .before .before .before .before .before .before .before .before .before .before) more e) (c .before .before .before .before .before .before .before .before .before .before .before .before .before .before .before .before .before .before .before .before .before .before .before .before .before .before .before .before .before .before .before .before .before .before .if1 .left) (rows-besides reversing more _ _ _ _ _ _ _ _ _ (c .before .before .before .before .before .before .before .before .before .before .before .before .before .before .before .before .before .before .before .before .before .before .solve-rows .ensures))
+returns-2 c more e = call-done (number (c .before .before .before .before .before .before .before .before .before .before .before .before .before .before .before .before .before .before .before .before .before .before .before .before .before .before .before .before .before .before .before .before .before .before .before) more e) (c .before .before .before .before .before .before .before .before .before .before .before .before .before .before .before .before .before .before .before .before .before .before .before .before .before .before .before .before .before .before .before .before .before .before .if1 .left) (rows-besides reversing more _ _ _ _ _ _ _ _ _ (c .before .before .before .before .before .before .before .before .before .before .before .before .before .before .before .before .before .before .before .before .before .before .solve-rows .ensures))
 
 pub checked-rows-spec : {M : Type 1} → statement M
 checked-rows-spec =

@@ -34,7 +34,7 @@ or-requires-2 c κs = search needs
 
 returns : tie.Need-returns
 unfolding givenRows
-returns c = call-refused _ _ _ _ _ _ _ (number (c .before)) (c .if1 .taken)
+returns c = call-refused (number (c .before)) (c .if1 .taken)
 
 solve-rows-requires : tie.Need-solve-rows-requires
 solve-rows-requires c κs =
@@ -64,7 +64,7 @@ same-length-7 : tie.Need-same-length-7
 same-length-7 c = c .before .before .before .before .before .before .before .before .before .before .before .before .before .before .solve-rows .kept .1 .1 .1 .1 .1 .1 .1 .1 .1 .1 .1 .1 .1 .0
 
 returns-2 : tie.Need-returns-2
-returns-2 c = call-done _ _ _ _ _ _ _ (number (c .before .before .before .before .before .before .before .before .before .before .before .before .before .before .before .before .before .before .before .before .before .before .before)) (c .before .before .before .before .before .before .before .before .before .before .before .before .before .before .before .before .before .before .before .before .before .before .if1 .left) (c .before .before .before .before .before .before .before .before .before .before .before .before .before .before .solve-rows .ensures)
+returns-2 c = call-done (number (c .before .before .before .before .before .before .before .before .before .before .before .before .before .before .before .before .before .before .before .before .before .before .before)) (c .before .before .before .before .before .before .before .before .before .before .before .before .before .before .before .before .before .before .before .before .before .before .if1 .left) (c .before .before .before .before .before .before .before .before .before .before .before .before .before .before .solve-rows .ensures)
 
 pub checked-rows-spec : {M : Type 1} → statement M
 checked-rows-spec =
