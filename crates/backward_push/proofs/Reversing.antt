@@ -73,7 +73,6 @@ pub made-turnable : {n j : ℕ} {rows : List (List Entry)} {from to starts colum
 made-turnable b h c rs rc rv p =
     let e = c ∙ b .columns-long in
     record {
-      nodes = b .nodes;
       entries = omega (arith, e, b .links);
       rowed = held-rowed (h .held);
       starts-long = rs;

@@ -33,7 +33,6 @@ module _ {S B : Type 0} (k : Lending S B) {r : ℕ} (listed rest n : ℕ) where
       let l = z .long in (
         λ positions p.
             record {
-              nodes = z .nodes;
               links = z .links;
               to-long = l .0;
               weight-long = l .1 .0;

@@ -46,7 +46,6 @@ passed c =
     record {
       buffers =
           record {
-            nodes = p .0 .nodes;
             entries = p .0 .links;
             rowed = rowed-of (l .0) (l .1 .0) (p .1);
             starts-long = l .1 .1 .0;

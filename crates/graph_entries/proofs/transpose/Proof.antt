@@ -28,7 +28,6 @@ passed c =
     let p = rows-passed _ _ _ _ _ _ (number (c .before)) (c .if1 .left) in
     let l = p .0 .long in
     record {
-      nodes = p .0 .nodes;
       entries = p .0 .links;
       rowed = rowed-of (l .0) (l .1 .0) (p .1);
       starts-long = l .1 .1 .0;

@@ -57,7 +57,6 @@ solve-rows-requires c κs =
     let l = z .long in
     let f = fits [] _ (λ _. omega arith) (record { nodes = z .nodes; links = z .links; listed = z .listed; long = l .1 .1 .1 .1 .1 .1 }) in (
       record {
-        nodes = z .nodes;
         entries = z .links;
         rowed = q .0;
         starts-long = l .1 .1 .0;
