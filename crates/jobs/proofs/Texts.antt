@@ -31,11 +31,15 @@ unfolding refusedOr
 text-refused zero done h g = absurd (h refl)
 text-refused (suc k) done h g = g
 
--- none
-pub text-done : (number : ℕ) (done : List ℕ) {text text′ : List ℕ} {r : ℕ} → number ≡ 0 → Grown 0 done text r text′ → Grown 0 (refusedOr number done) text r text′
+-- the text where there is none
+pub text-of : (number : ℕ) (done : List ℕ) → number ≡ 0 → refusedOr number done ≡ done
 unfolding refusedOr
-text-done zero done h g = g
-text-done (suc k) done h g = absurd (omega arith)
+text-of zero done h = refl
+text-of (suc k) done h = absurd (omega arith)
+
+-- and what was written then
+pub text-done : (number : ℕ) (done : List ℕ) {text text′ : List ℕ} {r : ℕ} → number ≡ 0 → Grown 0 done text r text′ → Grown 0 (refusedOr number done) text r text′
+text-done number done h g = rw (text-of number done h) g
 
 -- lengths that are as stated fail no test
 alike-lengths : (ps : List (ℕ × ℕ)) → Alike ps → unlike false ps ≡ false

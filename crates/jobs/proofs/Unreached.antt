@@ -1,9 +1,8 @@
 -- Demand 3 of what a job prints: among the lines of the nodes, that of a node which no source can reach shows score and remainder +0; and two jobs with the
 -- same nodes, sources and settings, and the same kept links out of every node that the sources can reach, print the same text. Assumes nothing.
-use Prim.Native.Nat.{ℕ, zero, suc, _<_}
+use Prim.Native.Nat.{ℕ, suc, _<_}
 use mathlib.Core.List.{List, _++_}
-use mathlib.Core.Path.{_≡_, refl, sym, _∙_}
-use native.Mathlib.Omega.{arith}
+use mathlib.Core.Path.{_≡_, sym, _∙_}
 use lib.ListN.{take, drop}
 use lib.Ieee.{nan}
 use Rattle.numbers.specs.Numbers.{+0}
@@ -14,7 +13,8 @@ use Rattle.rules.proofs.Lengths.{Sized, solve-sized}
 use Rattle.rules.proofs.Unreached.{unreached, forward-alike}
 use Rattle.job_text.specs.Text.{nodeLine, nodeLines}
 use Rattle.job_text.proofs.NodeLines.{line-at}
-use Rattle.jobs.specs.Jobs.{Job, end, refusedOr, doneText, Prints}
+use Rattle.jobs.specs.Jobs.{Job, end, Prints}
+use Rattle.jobs.proofs.Texts.{text-of}
 
 -- the links of a job
 abbrev given-links : Job → List Link
@@ -43,12 +43,6 @@ module _ (j : Job) where
       rw (u .score, u .remainder) at (line-at v (end j .estimate) (end j .residual) nan (rw (z .estimate-long) h) (z .residual-long ∙ sym (z .estimate-long)))
 
 -- ---- two jobs
-
--- the text of a job that is not refused
-text-of : (number : ℕ) (done : List ℕ) → number ≡ 0 → refusedOr number done ≡ done
-unfolding refusedOr
-text-of zero done e = refl
-text-of (suc k) done e = absurd (omega arith)
 
 module _ (j k : Job) (nodes : k .nodes ≡ j .nodes) (sources : k .sources ≡ j .sources) (settings : k .given ≡ j .given)
     (same : SameReached (keptLinks (j .nodes) (given-links j)) (keptLinks (j .nodes) (given-links k)) (j .nodes) (j .sources)) where
