@@ -40,7 +40,7 @@ pub extern "C" fn adaptive_solve_rows<'a>(
         (solveLent (now («backward_estimate» .entry)) (now («backward_residual» .entry)) (now («in_degrees» .entry)) (now (priorities .entry)) (now (nodes .entry)) (now (queued .entry)) (now (visited .entry))))))
         source target «forward_settings» «backward_settings» ⌝ }
 {
-    bidirectional_push::rows::checked_rows(
+    bidirectional_rows::checked_rows(
         n,
         starts,
         columns,

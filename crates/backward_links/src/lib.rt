@@ -8,7 +8,7 @@ ghost use Rattle.refusals.specs.Refusals.{unlike, linkTests};
 ghost use Rattle.refusals.specs.Calls.{left};
 ghost use Rattle.graph.specs.Store.{Buffers};
 ghost use Rattle.rules.specs.Ways.{backward};
-ghost use Rattle.solver.specs.Watching.{watchIn};
+ghost use Rattle.watching.specs.Watching.{watchIn};
 ghost use Rattle.calls.specs.Lent.{words, besides, solveLent, linksLent};
 ghost use Rattle.calls.specs.Outcomes.{givenLinks};
 ghost use Rattle.calls.specs.Promises.{Fits, Settles, Checks};
@@ -16,7 +16,7 @@ ghost use Rattle.backward_push.specs.Lent.{backLent, reversing};
 use backward_push::rows::solve_rows;
 use calls::Counted;
 use refusals::Settings;
-use solver::Watch;
+use watching::Watch;
 
 // Tests 1 to 5 of a call with a list of m links, by the lengths of what is lent, and by whether another buffer has another
 // length than stated.

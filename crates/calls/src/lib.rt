@@ -9,13 +9,13 @@ ghost use Rattle.numbers.specs.Numbers.{+0};
 ghost use Rattle.refusals.specs.Refusals.{unlike};
 ghost use Rattle.rules.specs.Rules as Rules;
 ghost use Rattle.rules.specs.Answers.{extrapolated};
-ghost use Rattle.solver.specs.Watching.{watchIn};
+ghost use Rattle.watching.specs.Watching.{watchIn};
 ghost use Rattle.pushes.specs.Buffers.{Rows};
 ghost use Rattle.pushes.specs.Meant.{Stands};
 ghost use Rattle.calls.specs.Lent.{words, solveLent};
 ghost use Rattle.calls.specs.Promises.{Fits, Measured, Queried, SolveSettled};
 use refusals::Settings;
-use solver::Watch;
+use watching::Watch;
 
 // What a solve answers before its norm is taken: how many pushes it made, and how many nodes it pushed. Number 0 is
 // done.

@@ -7,14 +7,14 @@ ghost use Rattle.refusals.specs.Refusals.{linkTests};
 ghost use Rattle.refusals.specs.Calls.{left};
 ghost use Rattle.graph.specs.Store.{Buffers};
 ghost use Rattle.rules.specs.Ways.{forward};
-ghost use Rattle.solver.specs.Watching.{watchIn};
+ghost use Rattle.watching.specs.Watching.{watchIn};
 ghost use Rattle.calls.specs.Lent.{words, solveLent, linksLent, solving};
 ghost use Rattle.calls.specs.Outcomes.{givenLinks};
 ghost use Rattle.calls.specs.Promises.{Fits, Settles, Checks};
 use calls::Counted;
 use forward_push::rows::solve_rows;
 use refusals::Settings;
-use solver::Watch;
+use watching::Watch;
 
 // Tests 1 to 5 of a call with a list of m links, by the lengths of what is lent.
 fn refuse_links(

@@ -1,9 +1,5 @@
 // Makes a recorded call with a list of links: of eleven, the one that is given. Those that take the same
-// buffers stand together, in a file each.
-mod backward;
-mod both;
-mod forward;
-
+// buffers stand together, in a crate each, so that they are proved side by side.
 use calls::Solved;
 use solve_records::Given;
 use solve_records::questions;
@@ -34,7 +30,7 @@ pub fn answer(
     visited: &mut [u64],
 ) -> Solved {
     if given.call < questions::MULTI_TARGET {
-        return forward::pushed_forward(
+        return forward_links_replay::pushed_forward(
             given,
             from,
             to,
@@ -53,7 +49,7 @@ pub fn answer(
         );
     }
     if given.call < questions::BIDIRECTIONAL {
-        return backward::pushed_backward(
+        return backward_links_replay::pushed_backward(
             given,
             from,
             to,
@@ -76,7 +72,7 @@ pub fn answer(
             visited,
         );
     }
-    both::pushed_both_ways(
+    bidirectional_links_replay::pushed_both_ways(
         given,
         from,
         to,

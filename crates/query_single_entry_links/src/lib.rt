@@ -6,7 +6,7 @@ ghost use Rattle.calls.specs.Outcomes.{givenLinks};
 ghost use Rattle.forward_push.specs.Outcomes.{querySingleEntry};
 use calls::Scored;
 use refusals::Settings;
-use solver::Watch;
+use watching::Watch;
 
 #[no_mangle]
 pub extern "C" fn query_single_entry_links(

@@ -6,7 +6,7 @@ ghost use Rattle.calls.specs.Outcomes.{givenRows};
 ghost use Rattle.forward_push.specs.Outcomes.{querySingleEntry};
 use calls::Scored;
 use refusals::Settings;
-use solver::Watch;
+use watching::Watch;
 
 #[no_mangle]
 pub extern "C" fn query_single_entry_rows<'a>(
@@ -31,7 +31,7 @@ pub extern "C" fn query_single_entry_rows<'a>(
         source target settings ⌝ }
 {
     let one = [source];
-    let c = forward_push::rows::checked_rows(
+    let c = forward_rows::checked_rows(
         n,
         starts,
         columns,

@@ -7,7 +7,7 @@ ghost use Rattle.backward_push.specs.Lent.{backLent, reversing};
 ghost use Rattle.backward_push.specs.Outcomes.{queryTransitionProbability};
 use calls::Scored;
 use refusals::Settings;
-use solver::Watch;
+use watching::Watch;
 
 #[no_mangle]
 pub extern "C" fn query_transition_probability_links(

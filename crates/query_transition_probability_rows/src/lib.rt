@@ -7,7 +7,7 @@ ghost use Rattle.backward_push.specs.Lent.{backLent, reversing};
 ghost use Rattle.backward_push.specs.Outcomes.{queryTransitionProbability};
 use calls::Scored;
 use refusals::Settings;
-use solver::Watch;
+use watching::Watch;
 
 #[no_mangle]
 pub extern "C" fn query_transition_probability_rows<'a>(
@@ -38,7 +38,7 @@ pub extern "C" fn query_transition_probability_rows<'a>(
         source target settings ⌝ }
 {
     let one = [target];
-    let c = backward_push::rows::checked_rows(
+    let c = backward_rows::checked_rows(
         n,
         starts,
         columns,

@@ -10,7 +10,7 @@ use lib.Ieee.{Float, le}
 use Rattle.numbers.proofs.Tests.{of-true, of-false}
 use Rattle.numbers.proofs.Choice.{decided}
 use Rattle.queue.specs.Waiting.{Slot, out, waits, Best, nobody, best, better, bestFrom, next}
-use Rattle.queue.specs.Heap.{WorkItem, Under}
+use Rattle.heap.specs.Entries.{WorkItem, Under}
 use Rattle.queue.proofs.Taken.{out-waits}
 
 -- the entry of a node at a priority

@@ -13,11 +13,12 @@ use Rattle.numbers.proofs.Tests.{of-true}
 use Rattle.numbers.proofs.Order.{le-number-right}
 use Rattle.marks.specs.Marks.{marked, WithMark}
 use Rattle.queue.specs.Waiting.{Slot, out, waits, taken, offered}
-use Rattle.queue.specs.Heap.{WorkItem, entries, filled, waiting, parent, Numbers, isWaiting, Heap}
+use Rattle.heap.specs.Entries.{WorkItem, entries, parent, Numbers}
+use Rattle.queue.specs.Heap.{filled, waiting, isWaiting, Heap}
 use Rattle.queue.specs.Promises.{Holds}
-use Rattle.queue.specs.Steps.{OrderedBut, Climbed}
-use Rattle.queue.proofs.Stores.{put-here, put-elsewhere}
-use Rattle.queue.proofs.Exchanging.{under-by}
+use Rattle.heap.specs.Steps.{OrderedBut, Climbed}
+use Rattle.heap.proofs.Stores.{put-here, put-elsewhere}
+use Rattle.heap.proofs.Exchanging.{under-by}
 use Rattle.queue.proofs.Taken.{Free, taken-more, taken-length}
 use Rattle.queue.proofs.Filled.{Full, filled-same}
 use Rattle.queue.proofs.Settle.{waiting-length, settles}

@@ -10,8 +10,9 @@ use native.Mathlib.Omega.{arith}
 use lib.ListN.{length, getD, set, length-set, length-replicate, getD-replicate}
 use lib.Seq.{ext-getD, getD-set-same, getD-set-other}
 use Rattle.queue.specs.Waiting.{Slot, out, waits, taken}
-use Rattle.queue.specs.Heap.{WorkItem, filled}
-use Rattle.queue.specs.Steps.{Among}
+use Rattle.heap.specs.Entries.{WorkItem}
+use Rattle.queue.specs.Heap.{filled}
+use Rattle.heap.specs.Steps.{Among}
 use Rattle.queue.proofs.Taken.{Free, out-waits, taken-none, taken-set}
 
 module _ (n : ℕ) where

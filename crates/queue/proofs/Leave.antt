@@ -12,11 +12,12 @@ use lib.Seq.{set-set, set-getD}
 use lib.Ieee.{Float}
 use Rattle.marks.specs.Marks.{WithMark}
 use Rattle.queue.specs.Waiting.{Slot, out, waits, taken, best, next}
-use Rattle.queue.specs.Heap.{WorkItem, entries, filled, waiting, Under, parent, Heap}
+use Rattle.heap.specs.Entries.{WorkItem, entries, Under, parent}
+use Rattle.queue.specs.Heap.{filled, waiting, Heap}
 use Rattle.queue.specs.Promises.{Removed}
-use Rattle.queue.specs.Steps.{Exchanged, Among, OrderedBut, Sunk}
-use Rattle.queue.proofs.Under.{under-reflexive, under-transitive}
-use Rattle.queue.proofs.Exchanging.{among-exchanged, among-back, numbers-among, under-by}
+use Rattle.heap.specs.Steps.{Exchanged, Among, OrderedBut, Sunk}
+use Rattle.heap.proofs.Under.{under-reflexive, under-transitive}
+use Rattle.heap.proofs.Exchanging.{among-exchanged, among-back, numbers-among, under-by}
 use Rattle.queue.proofs.Taken.{out-waits}
 use Rattle.queue.proofs.Filled.{Full, Last, last-of, node-inside, slot-of, slot-at, filled-among}
 use Rattle.queue.proofs.Settle.{waiting-length, settles}

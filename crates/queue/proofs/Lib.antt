@@ -1,9 +1,4 @@
 -- The laws that the proofs of `queue` share. `Taken`, `Settle` and `Enter` are also for whoever builds on the queue.
-mod Under
-mod Stores
-mod Exchanging
-mod Climb
-mod Sink
 pub mod Taken
 mod Offer
 mod Filled

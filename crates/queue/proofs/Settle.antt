@@ -10,10 +10,11 @@ use lib.Seq.{getD-set-same, getD-set-other}
 use lib.Ieee.{Float}
 use Rattle.marks.specs.Marks.{marked, WithMark}
 use Rattle.queue.specs.Waiting.{Slot, out, taken}
-use Rattle.queue.specs.Heap.{WorkItem, entries, filled, waiting, isWaiting, Heap}
+use Rattle.heap.specs.Entries.{WorkItem, entries}
+use Rattle.queue.specs.Heap.{filled, waiting, isWaiting, Heap}
 use Rattle.queue.specs.Promises.{Holds}
-use Rattle.queue.specs.Steps.{OrderedBut, Settled}
-use Rattle.queue.proofs.Exchanging.{numbers-among}
+use Rattle.heap.specs.Steps.{OrderedBut, Settled}
+use Rattle.heap.proofs.Exchanging.{numbers-among}
 use Rattle.queue.proofs.Filled.{Full, length-filled, filled-among}
 
 -- what buffers with n places mean

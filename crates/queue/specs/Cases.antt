@@ -5,7 +5,8 @@ use lib.Ieee.{Float, nan, ofBits, mul, le, lt}
 use Rattle.numbers.specs.Numbers.{f64, +0, one, _⊗_}
 use Rattle.numbers.specs.Choice.{if_then_else_}
 use Rattle.queue.specs.Waiting.{out, waits, answer, entered, belowThreshold, alreadyIn, offered, best, nobody, better, bestFrom, next, usual, adapted}
-use Rattle.queue.specs.Heap.{entries, filled, waiting}
+use Rattle.heap.specs.Entries.{entries}
+use Rattle.queue.specs.Heap.{filled, waiting}
 
 half : Float
 half = f64 0x3fe0_0000_0000_0000

@@ -6,7 +6,7 @@ ghost use Rattle.calls.specs.Outcomes.{givenLinks};
 ghost use Rattle.backward_push.specs.Lent.{backLent, reachLent, reaching};
 ghost use Rattle.backward_push.specs.Outcomes.{reachabilityProbabilities};
 use refusals::Settings;
-use solver::Watch;
+use watching::Watch;
 
 #[no_mangle]
 pub extern "C" fn reachability_probabilities_links(

@@ -6,7 +6,7 @@ ghost use Rattle.calls.specs.Outcomes.{givenRows};
 ghost use Rattle.backward_push.specs.Lent.{backLent, reachLent, reaching};
 ghost use Rattle.backward_push.specs.Outcomes.{reachabilityProbabilities};
 use refusals::Settings;
-use solver::Watch;
+use watching::Watch;
 
 #[no_mangle]
 pub extern "C" fn reachability_probabilities_rows<'a>(
@@ -37,7 +37,7 @@ pub extern "C" fn reachability_probabilities_rows<'a>(
         target settings ⌝ }
 {
     let one = [target];
-    let c = backward_push::rows::checked_rows(
+    let c = backward_rows::checked_rows(
         n,
         starts,
         columns,

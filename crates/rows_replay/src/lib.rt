@@ -1,9 +1,6 @@
 // Makes a recorded call with rows: of eleven, the one that is given. Those that take the same buffers stand
-// together, in a file each. Columns and weights share a lifetime, as the calls have them.
-mod backward;
-mod both;
-mod forward;
-
+// together, in a crate each, so that they are proved side by side. Columns and weights share a lifetime, as the
+// calls have them.
 use calls::Solved;
 use solve_records::Given;
 use solve_records::questions;
@@ -31,7 +28,7 @@ pub fn answer<'a>(
     visited: &mut [u64],
 ) -> Solved {
     if given.call < questions::MULTI_TARGET {
-        return forward::pushed_forward(
+        return forward_rows_replay::pushed_forward(
             given,
             starts,
             columns,
@@ -47,7 +44,7 @@ pub fn answer<'a>(
         );
     }
     if given.call < questions::BIDIRECTIONAL {
-        return backward::pushed_backward(
+        return backward_rows_replay::pushed_backward(
             given,
             starts,
             columns,
@@ -67,7 +64,7 @@ pub fn answer<'a>(
             visited,
         );
     }
-    both::pushed_both_ways(
+    bidirectional_rows_replay::pushed_both_ways(
         given,
         starts,
         columns,

@@ -5,7 +5,7 @@ ghost use Rattle.calls.specs.Outcomes.{givenLinks};
 ghost use Rattle.forward_push.specs.Outcomes.{solveMultiSource};
 use calls::Solved;
 use refusals::Settings;
-use solver::Watch;
+use watching::Watch;
 
 #[no_mangle]
 pub extern "C" fn solve_multi_source_links(

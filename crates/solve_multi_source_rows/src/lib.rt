@@ -5,7 +5,7 @@ ghost use Rattle.calls.specs.Outcomes.{givenRows};
 ghost use Rattle.forward_push.specs.Outcomes.{solveMultiSource};
 use calls::Solved;
 use refusals::Settings;
-use solver::Watch;
+use watching::Watch;
 
 #[no_mangle]
 pub extern "C" fn solve_multi_source_rows<'a>(
@@ -27,7 +27,7 @@ pub extern "C" fn solve_multi_source_rows<'a>(
         (solveLent (now (estimate .entry)) (now (residual .entry)) (now (degrees .entry)) (now (priorities .entry)) (now (nodes .entry)) (now (queued .entry)) (now (visited .entry))))
         (now (sources .entry)) settings (left r (solveLent (now (estimate .exit)) (now (residual .exit)) (now (degrees .exit)) (now (priorities .exit)) (now (nodes .exit)) (now (queued .exit)) (now (visited .exit)))) ⌝ }
 {
-    let c = forward_push::rows::checked_rows(
+    let c = forward_rows::checked_rows(
         n,
         starts,
         columns,

@@ -6,7 +6,7 @@ ghost use Rattle.backward_push.specs.Lent.{backLent, reversing};
 ghost use Rattle.backward_push.specs.Outcomes.{solveMultiTarget};
 use calls::Solved;
 use refusals::Settings;
-use solver::Watch;
+use watching::Watch;
 
 #[no_mangle]
 pub extern "C" fn solve_multi_target_rows<'a>(
@@ -34,7 +34,7 @@ pub extern "C" fn solve_multi_target_rows<'a>(
         (now (targets .entry)) settings (left r (backLent (now («reverse_starts» .exit)) (now («reverse_columns» .exit)) (now («reverse_weights» .exit)) (now («out_degrees» .exit))
         (solveLent (now (estimate .exit)) (now (residual .exit)) (now («in_degrees» .exit)) (now (priorities .exit)) (now (nodes .exit)) (now (queued .exit)) (now (visited .exit))))) ⌝ }
 {
-    let c = backward_push::rows::checked_rows(
+    let c = backward_rows::checked_rows(
         n,
         starts,
         columns,

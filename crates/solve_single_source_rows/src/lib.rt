@@ -5,7 +5,7 @@ ghost use Rattle.calls.specs.Outcomes.{givenRows};
 ghost use Rattle.forward_push.specs.Outcomes.{solveSingleSource};
 use calls::Solved;
 use refusals::Settings;
-use solver::Watch;
+use watching::Watch;
 
 #[no_mangle]
 pub extern "C" fn solve_single_source_rows<'a>(
@@ -28,7 +28,7 @@ pub extern "C" fn solve_single_source_rows<'a>(
         source settings (left r (solveLent (now (estimate .exit)) (now (residual .exit)) (now (degrees .exit)) (now (priorities .exit)) (now (nodes .exit)) (now (queued .exit)) (now (visited .exit)))) ⌝ }
 {
     let one = [source];
-    let c = forward_push::rows::checked_rows(
+    let c = forward_rows::checked_rows(
         n,
         starts,
         columns,

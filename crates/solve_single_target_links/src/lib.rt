@@ -6,7 +6,7 @@ ghost use Rattle.backward_push.specs.Lent.{backLent, reversing};
 ghost use Rattle.backward_push.specs.Outcomes.{solveSingleTarget};
 use calls::Solved;
 use refusals::Settings;
-use solver::Watch;
+use watching::Watch;
 
 #[no_mangle]
 pub extern "C" fn solve_single_target_links(

@@ -6,7 +6,7 @@ ghost use Rattle.backward_push.specs.Lent.{backLent, reversing};
 ghost use Rattle.backward_push.specs.Outcomes.{solveSingleTarget};
 use calls::Solved;
 use refusals::Settings;
-use solver::Watch;
+use watching::Watch;
 
 #[no_mangle]
 pub extern "C" fn solve_single_target_rows<'a>(
@@ -35,7 +35,7 @@ pub extern "C" fn solve_single_target_rows<'a>(
         (solveLent (now (estimate .exit)) (now (residual .exit)) (now («in_degrees» .exit)) (now (priorities .exit)) (now (nodes .exit)) (now (queued .exit)) (now (visited .exit))))) ⌝ }
 {
     let one = [target];
-    let c = backward_push::rows::checked_rows(
+    let c = backward_rows::checked_rows(
         n,
         starts,
         columns,

@@ -6,7 +6,7 @@ ghost use Rattle.backward_push.specs.Lent.{backLent, reversing};
 ghost use Rattle.backward_push.specs.Outcomes.{solveWithSource};
 use calls::Solved;
 use refusals::Settings;
-use solver::Watch;
+use watching::Watch;
 
 #[no_mangle]
 pub extern "C" fn solve_with_source_rows<'a>(
@@ -38,7 +38,7 @@ pub extern "C" fn solve_with_source_rows<'a>(
 {
     let one = [target];
     let further = refusals::refuse_precision(source_precision);
-    let c = backward_push::rows::checked_rows(
+    let c = backward_rows::checked_rows(
         n,
         starts,
         columns,

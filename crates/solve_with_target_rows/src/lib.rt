@@ -5,7 +5,7 @@ ghost use Rattle.calls.specs.Outcomes.{givenRows};
 ghost use Rattle.forward_push.specs.Outcomes.{solveWithTarget};
 use calls::Solved;
 use refusals::Settings;
-use solver::Watch;
+use watching::Watch;
 
 #[no_mangle]
 pub extern "C" fn solve_with_target_rows<'a>(
@@ -31,7 +31,7 @@ pub extern "C" fn solve_with_target_rows<'a>(
 {
     let one = [source];
     let further = refusals::refuse_precision(target_precision);
-    let c = forward_push::rows::checked_rows(
+    let c = forward_rows::checked_rows(
         n,
         starts,
         columns,

@@ -1,3 +1,2 @@
 -- The definitions that the contracts of `solver` cite.
-pub mod Watching
 pub mod Promises

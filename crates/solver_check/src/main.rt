@@ -3,7 +3,6 @@
 // and every buffer unchanged after a refused one. oracle/runs/src/bin/record makes the recording, and
 // `solve_records` has its layout.
 mod graphs;
-mod vectors;
 
 use libc::STDIN_FILENO;
 use libc::STDOUT_FILENO;
@@ -24,10 +23,10 @@ struct Tally {
 fn agrees(bytes: &[u8; SIZE]) -> bool {
     let call = solve_records::whole(bytes, places::CALL);
     if call == questions::EXTRAPOLATED {
-        return vectors::extrapolation_agrees(bytes);
+        return vectors_replay::extrapolation_agrees(bytes);
     }
     if call == questions::COMBINED {
-        return vectors::combination_agrees(bytes);
+        return vectors_replay::combination_agrees(bytes);
     }
     graphs::agrees(bytes)
 }

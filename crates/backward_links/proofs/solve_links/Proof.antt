@@ -2,7 +2,7 @@
 use mathlib.Core.Path.{_∙_}
 use denote.Ref.{now}
 use Rattle.rules.specs.Ways.{backward}
-use Rattle.solver.specs.Watching.{watchIn}
+use Rattle.watching.specs.Watching.{watchIn}
 use Rattle.calls.proofs.Fits.{fits-nodes}
 use Rattle.calls.proofs.Links.{links-settle}
 use Rattle.backward_push.specs.Lent.{reversing}

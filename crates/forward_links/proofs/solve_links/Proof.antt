@@ -2,7 +2,7 @@
 use mathlib.Core.Path.{_∙_}
 use denote.Ref.{now}
 use Rattle.graph.proofs.Back.{held-rowed}
-use Rattle.solver.specs.Watching.{watchIn}
+use Rattle.watching.specs.Watching.{watchIn}
 use Rattle.rules.specs.Ways.{forward}
 use Rattle.calls.specs.Lent.{solving}
 use Rattle.calls.proofs.Fits.{fits-nodes}

@@ -1,7 +1,7 @@
 -- `query_single_entry_links` meets its contract: what `checked_links` leaves, and the score in it. Assumes nothing.
 use mathlib.Core.Path.{refl}
 use native.Mathlib.Omega.{arith}
-use Rattle.solver.specs.Watching.{watchIn}
+use Rattle.watching.specs.Watching.{watchIn}
 use Rattle.calls.proofs.Left.{no-further, query-answered}
 use Rattle.calls.proofs.Vectors.{forward-vectors, links-vectors}
 use borrow.Author.Needs.{needs}

@@ -2,7 +2,7 @@
 use mathlib.Core.List.{[]}
 use mathlib.Core.Path.{refl}
 use native.Mathlib.Omega.{arith}
-use Rattle.solver.specs.Watching.{watchIn}
+use Rattle.watching.specs.Watching.{watchIn}
 use Rattle.calls.proofs.Left.{no-further, query-answered}
 use Rattle.calls.proofs.Vectors.{rows-vectors}
 use Rattle.calls.proofs.Lengths.{none-besides}

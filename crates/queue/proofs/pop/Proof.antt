@@ -1,7 +1,7 @@
 -- `queue::pop` meets its contract, by `leaves`. Assumes nothing.
 use mathlib.Core.Path.{refl, _∙_}
 use native.Mathlib.Omega.{arith}
-use Rattle.queue.specs.Heap.{entries}
+use Rattle.heap.specs.Entries.{entries}
 use Rattle.queue.proofs.Leave.{first-inside, leaves}
 use borrow.Author.Needs.{needs}
 use Rattle.queue.proofs.pop.Statement.{statement}

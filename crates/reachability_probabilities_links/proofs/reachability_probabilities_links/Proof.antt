@@ -3,7 +3,7 @@ use mathlib.Core.List.{[], _∷_}
 use mathlib.Core.Path.{sym, _∙_}
 use native.Mathlib.Omega.{arith}
 use denote.Ref.{now}
-use Rattle.solver.specs.Watching.{watchIn}
+use Rattle.watching.specs.Watching.{watchIn}
 use Rattle.calls.proofs.Lengths.{one-besides}
 use Rattle.backward_push.proofs.Reaching.{links-reach-sized, links-reach-refused, links-reach-done}
 use borrow.Author.Needs.{needs}

@@ -1,6 +1,6 @@
 -- `solve_multi_source_links` meets its contract: what `checked_links` leaves, and the norm. Assumes nothing.
 use mathlib.Core.Path.{refl}
-use Rattle.solver.specs.Watching.{watchIn}
+use Rattle.watching.specs.Watching.{watchIn}
 use Rattle.calls.proofs.Left.{no-further, solve-measured}
 use Rattle.calls.proofs.Vectors.{forward-vectors, links-vectors}
 use borrow.Author.Needs.{needs}

@@ -1,7 +1,7 @@
 -- `solve_multi_target_rows` meets its contract: what `checked_rows` leaves, and the norm. Assumes nothing.
 use mathlib.Core.List.{[]}
 use mathlib.Core.Path.{refl}
-use Rattle.solver.specs.Watching.{watchIn}
+use Rattle.watching.specs.Watching.{watchIn}
 use Rattle.calls.proofs.Left.{no-further, solve-measured}
 use Rattle.calls.proofs.Vectors.{rows-vectors}
 use Rattle.calls.proofs.Lengths.{none-besides}

@@ -1,7 +1,7 @@
 -- `solve_with_source_rows` meets its contract: what `checked_rows` leaves, and the norm. Assumes nothing.
 use mathlib.Core.List.{[]}
 use native.Mathlib.Omega.{arith}
-use Rattle.solver.specs.Watching.{watchIn}
+use Rattle.watching.specs.Watching.{watchIn}
 use Rattle.calls.proofs.Left.{with-further, solve-measured}
 use Rattle.calls.proofs.Vectors.{rows-vectors}
 use Rattle.calls.proofs.Lengths.{none-besides}

@@ -1,6 +1,6 @@
 -- `solve_with_target_rows` meets its contract: what `checked_rows` leaves, and the norm. Assumes nothing.
 use native.Mathlib.Omega.{arith}
-use Rattle.solver.specs.Watching.{watchIn}
+use Rattle.watching.specs.Watching.{watchIn}
 use Rattle.calls.proofs.Left.{with-further, solve-measured}
 use Rattle.calls.proofs.Vectors.{forward-vectors, rows-vectors}
 use borrow.Author.Needs.{needs}

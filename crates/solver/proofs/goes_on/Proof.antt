@@ -1,5 +1,6 @@
 -- `solver::goes_on` meets its contract. Assumes nothing.
-use mathlib.Core.Path.{sym, _∙_}
+use mathlib.Core.Path.{refl, sym, _∙_}
+use denote.Ref.{now}
 use borrow.Author.Tests.{lt-ltb, le-ltb}
 use Rattle.pushes.specs.States.{stateIn}
 use Rattle.solver.specs.Promises.{goesOn}
@@ -12,11 +13,15 @@ stopped-requires c κs = search needs
 
 returns : tie.Need-returns
 unfolding goesOn stateIn
-returns c = λ n ps ns vs. rw (lt-ltb _ _ (c .before .before .if1 .taken), sym (c .before .stopped .ensures n (c .before .before .before .before .before .before .before .args .p) ps ns vs) ∙ c .if2 .taken)
+returns c =
+    let a = c .before .before .before .before .before .before .before .args in
+    λ n ps ns vs. rw (lt-ltb _ _ (c .before .before .if1 .taken), sym (c .before .stopped .ensures (stateIn n (now (a .estimate)) (now (a .residual)) (a .p) ps ns vs) refl refl) ∙ c .if2 .taken)
 
 returns-2 : tie.Need-returns-2
 unfolding goesOn stateIn
-returns-2 c = λ n ps ns vs. rw (lt-ltb _ _ (c .before .before .before .before .if1 .taken), sym (c .before .before .before .stopped .ensures n (c .before .before .before .before .before .before .before .before .before .args .p) ps ns vs) ∙ c .before .before .if2 .left)
+returns-2 c =
+    let a = c .before .before .before .before .before .before .before .before .before .args in
+    λ n ps ns vs. rw (lt-ltb _ _ (c .before .before .before .before .if1 .taken), sym (c .before .before .before .stopped .ensures (stateIn n (now (a .estimate)) (now (a .residual)) (a .p) ps ns vs) refl refl) ∙ c .before .before .if2 .left)
 
 returns-3 : tie.Need-returns-3
 unfolding goesOn stateIn

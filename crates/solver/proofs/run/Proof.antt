@@ -4,7 +4,7 @@ use mathlib.Core.Path.{refl, sym, _∙_}
 use denote.Ref.{now}
 use lib.ListN.{length}
 use Rattle.rules.proofs.Ends.{measure, end-run}
-use Rattle.solver.specs.Watching.{watchIn}
+use Rattle.watching.specs.Watching.{watchIn}
 use Rattle.pushes.specs.States.{stateIn}
 use Rattle.pushes.proofs.Standing.{wayIn, stands}
 use Rattle.solver.proofs.Running.{Running, going, goes, halts}

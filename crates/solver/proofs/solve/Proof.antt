@@ -2,7 +2,7 @@
 use mathlib.Core.Path.{_∙_}
 use denote.Ref.{now}
 use lib.ListN.{length}
-use Rattle.solver.specs.Watching.{watchIn}
+use Rattle.watching.specs.Watching.{watchIn}
 use Rattle.pushes.proofs.Standing.{weighs}
 use Rattle.solver.proofs.Running.{solved}
 use borrow.Author.Needs.{needs}

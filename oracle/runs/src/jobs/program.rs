@@ -37,14 +37,17 @@ pub struct Printed {
 }
 
 impl Program {
-    /// The job program, which is for x86-64: on another processor `examples/emulator` names what runs it.
+    /// The job program, which is for x86-64. On another processor the first word of `examples/emulator` runs it, with the C
+    /// library in it, as `oracle/build` links its object file there: a loader takes longer under an emulator than the program.
     pub fn job() -> Self {
         let emulator = Command::new(root().join("examples/emulator")).output().expect("examples/emulator starts");
         assert!(emulator.status.success(), "examples/emulator fails");
         let emulator = String::from_utf8(emulator.stdout).expect("a command in plain letters");
-        let program = root().join("target/bin/job");
-        assert!(program.is_file(), "target/bin/job is missing: run oracle/build");
-        Self { words: emulator.lines().map(PathBuf::from).chain([program]).collect() }
+        let mut words: Vec<_> = emulator.lines().take(1).map(PathBuf::from).collect();
+        let program = root().join(if words.is_empty() { "target/bin/job" } else { "target/oracle/job" });
+        assert!(program.is_file(), "{} is missing: run oracle/build", program.display());
+        words.push(program);
+        Self { words }
     }
 
     /// The repaired Rust behind the same format; where the processor is no x86-64, the script that runs it.

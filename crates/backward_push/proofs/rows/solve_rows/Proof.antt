@@ -1,7 +1,7 @@
 -- `backward_push::rows::solve_rows` meets its contract: the rows reversed, the solve and the clearing, by the laws of rows in a direction. Assumes nothing.
 use mathlib.Core.Path.{_∙_}
 use denote.Ref.{now}
-use Rattle.solver.specs.Watching.{watchIn}
+use Rattle.watching.specs.Watching.{watchIn}
 use Rattle.calls.specs.Outcomes.{givenRows, ends}
 use Rattle.calls.proofs.Fits.{fits-nodes}
 use Rattle.calls.proofs.Directed.{rows-ready, fits-still, degrees-long, directed-left}

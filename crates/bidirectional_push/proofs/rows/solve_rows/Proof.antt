@@ -1,7 +1,7 @@
 -- `bidirectional_push::rows::solve_rows` meets its contract: the rows reversed, two solves, the score and the clearing, by the laws of `Joining`. Assumes nothing.
 use mathlib.Core.Path.{refl, sym, _∙_}
 use denote.Ref.{now}
-use Rattle.solver.specs.Watching.{watchIn}
+use Rattle.watching.specs.Watching.{watchIn}
 use Rattle.calls.proofs.Directed.{directed-forward, rows-ready, fits-still, degrees-long}
 use Rattle.backward_push.proofs.Reversing.{directed-backward}
 use Rattle.calls.proofs.Fits.{fits-again}

@@ -1,7 +1,7 @@
 -- `forward_push::rows::solve_rows` meets its contract: the degrees, the solve and the clearing, by the laws of rows in a direction. Assumes nothing.
 use mathlib.Core.Path.{refl, _∙_}
 use denote.Ref.{now}
-use Rattle.solver.specs.Watching.{watchIn}
+use Rattle.watching.specs.Watching.{watchIn}
 use Rattle.graph.proofs.Given.{summing-of}
 use Rattle.calls.specs.Outcomes.{givenRows, ends}
 use Rattle.calls.proofs.Directed.{directed-forward, rows-ready, fits-still, degrees-long, directed-left}

@@ -1,0 +1,3 @@
+-- What a heap is (`Entries`), and what its functions ensure (`Steps`).
+pub mod Entries
+pub mod Steps

@@ -1,0 +1,3 @@
+-- The laws that the proofs of `starting` share.
+mod Sources
+mod Starting

@@ -1,0 +1,2 @@
+-- The definitions that the contracts of `starting` cite.
+pub mod Promises

@@ -1,0 +1,3 @@
+-- The laws that the proofs of `turns` share.
+mod Moves
+mod Visits

@@ -1,0 +1,2 @@
+-- The definitions that the contracts of `watching` cite.
+pub mod Watching
