@@ -8,7 +8,7 @@ use lib.Ieee.{Float}
 use Rattle.refusals.specs.Refusals.{_or_, settings}
 use Rattle.refusals.specs.Calls.{Left, left, call}
 use Rattle.refusals.specs.declared.Settings.{Settings}
-use Rattle.refusals.proofs.Laws.{Sized, left-done}
+use Rattle.refusals.proofs.Laws.{Sized, number-zero, left-done}
 use Rattle.rules.specs.Ways.{backward}
 use Rattle.rules.specs.Rules.{State, unwatched}
 use Rattle.rules.specs.Answers.{extrapolated}
@@ -26,14 +26,13 @@ use Rattle.backward_push.proofs.Reversing.{backward-vectors}
 module _ {B : Type 0} where
   -- a solve that is done was not refused
   done-number : (number : ℕ) (g : Given State B) (s : State) {c : Counted} {b : B} → left c b ≡ unmeasured number g s → c .refusal ≡ 0 → number ≡ 0
-  unfolding unmeasured call
-  done-number zero g s d h = refl
-  done-number (suc k) g s d h = absurd (omega (arith, ap (λ (y : Left Counted B). y .answer .refusal) d))
+  unfolding unmeasured
+  done-number number g s d h = number-zero _ _ _ (λ y. y .refusal) (λ k. refl) refl number d h
 
   -- and left the buffers as they are after it
   done-lent : (number : ℕ) (g : Given State B) (s : State) {c : Counted} {b : B} → left c b ≡ unmeasured number g s → c .refusal ≡ 0 → b ≡ g .after s
   unfolding unmeasured
-  done-lent number g s d h = ap (λ (y : Left Counted B). y .lent) (left-done _ _ _ number d (done-number number g s d h))
+  done-lent number g s d h = ap (λ (y : Left Counted B). y .lent) (left-done _ _ _ (λ y. y .refusal) (λ k. refl) refl number d h)
 
 -- the answer stands beside what the solve is lent, as `wrap` has it
 module _ {B C : Type 0} (wrap : List Float → B → C) where

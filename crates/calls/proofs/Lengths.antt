@@ -8,7 +8,7 @@ use lib.Ieee.{Float}
 use Rattle.refusals.specs.Refusals.{unlike}
 use Rattle.refusals.specs.Calls.{Left}
 use Rattle.refusals.specs.declared.Settings.{Settings}
-use Rattle.refusals.proofs.Laws.{Alike, Sized}
+use Rattle.refusals.proofs.Laws.{AsStated, Sized}
 use Rattle.rules.specs.Rules.{State, Watch}
 use Rattle.calls.specs.declared.Counted.{Counted}
 use Rattle.calls.specs.Lent.{Lending, besides, LinksLent}
@@ -45,14 +45,14 @@ unlike-parts ls more ts bs l o t u =
 -- ---- other lengths besides
 
 -- lengths whose test gives b: a promise for whatever lengths were tested besides can be used where only the answer of their test is known
-pub told : Bool → List (ℕ × ℕ)
-told true = (0, 1) ∷ []
-told false = []
+pub failing : Bool → List (ℕ × ℕ)
+failing true = (0, 1) ∷ []
+failing false = []
 
-pub told-unlike : (b : Bool) → b ≡ unlike false (told b)
-unfolding told unlike
-told-unlike true = refl
-told-unlike false = refl
+pub failing-unlike : (b : Bool) → b ≡ unlike false (failing b)
+unfolding failing unlike
+failing-unlike true = refl
+failing-unlike false = refl
 
 -- nothing is tested besides
 pub none-besides : false ≡ unlike false []
@@ -70,12 +70,12 @@ unfolding unlike
 two-besides a b n = refl
 
 -- the lengths behind others are as stated
-alike-behind : (ps qs : List (ℕ × ℕ)) → Alike (ps ++ qs) → Alike qs
-alike-behind [] qs h = h
-alike-behind (p ∷ ps) qs h = alike-behind ps qs (h .1)
+stated-behind : (ps qs : List (ℕ × ℕ)) → AsStated (ps ++ qs) → AsStated qs
+stated-behind [] qs h = h
+stated-behind (p ∷ ps) qs h = stated-behind ps qs (h .1)
 
 pub sized-behind : {n m s : ℕ} (ps qs : List (ℕ × ℕ)) → Sized n m s (ps ++ qs) → Sized n m s qs
-sized-behind ps qs z = record { nodes = z .nodes; links = z .links; listed = z .listed; long = alike-behind ps qs (z .long) }
+sized-behind ps qs z = record { nodes = z .nodes; links = z .links; listed = z .listed; long = stated-behind ps qs (z .long) }
 
 -- a solve is the same, whatever lengths are tested besides
 module _ {B : Type 0} (k : Lending State B) (more : List (ℕ × ℕ)) (backward : Bool) (n : ℕ) (s : Settings) (watch : Watch) (sources : List ℕ) where

@@ -10,3 +10,4 @@ pub mod Asked
 pub mod Directed
 pub mod Links
 pub mod Unreached
+pub mod Queries

@@ -1,15 +1,15 @@
 -- Demand 3 of what calls leave. Where a solve answers 0, a node that no source can reach, or backward that can reach no target, has score and remainder +0 in
 -- the lent vectors. Where two solves answer 0, and the links that the demand names are the same, both leave the same answer and the same vectors.
 -- Assumes nothing.
-use Prim.Native.Nat.{ℕ, zero, suc, _<_}
+use Prim.Native.Nat.{ℕ, _<_}
 use mathlib.Core.Bool.{Bool, true, false}
 use mathlib.Core.List.{List}
 use mathlib.Core.Path.{_≡_, refl, sym, ap, subst, subst₂, _∙_}
 use lib.Ieee.{Float}
 use Rattle.numbers.specs.Numbers.{+0}
-use Rattle.refusals.specs.Calls.{Left, left, call}
+use Rattle.refusals.specs.Calls.{Left, left}
 use Rattle.refusals.specs.declared.Settings.{Settings}
-use Rattle.refusals.proofs.Laws.{left-done}
+use Rattle.refusals.proofs.Laws.{number-zero, left-done}
 use Rattle.graph.specs.Rows.{Entry, linksOf}
 use Rattle.rules.specs.Ways.{rowAt}
 use Rattle.rules.specs.Rules.{State, Watch, at}
@@ -45,22 +45,17 @@ alike-ends true g h settings watch list e same = rw e (backward-rows settings wa
 
 -- ---- what is left
 
--- the number that a solve answers is its first
-refusal-is : {B : Type 0} (number : ℕ) (g : Given State B) (s : State) {x : Left Solved B} → Solves number g s x → x .answer .refusal ≡ number
-unfolding solvedWith call
-refusal-is zero g s z = ap (λ (y : Left Solved _). y .answer .refusal) (z .leaves)
-refusal-is (suc k) g s z = ap (λ (y : Left Solved _). y .answer .refusal) (z .leaves)
-
 -- a solve that answers 0
 module _ {B : Type 0} (number : ℕ) (g : Given State B) (s : State) {x : Left Solved B} (z : Solves number g s x) (done : x .answer .refusal ≡ 0) where
   -- its first number is 0
   first-is : number ≡ 0
-  first-is = sym (refusal-is number g s z) ∙ done
+  unfolding solvedWith
+  first-is = number-zero _ _ _ (λ y. y .refusal) (λ k. refl) refl number (z .leaves) done
 
   -- leaves its counts, its norm and its vectors
   done-leaves : x ≡ left (solvedOf 0 (s .pushes) (visitedCount s) (z .norm)) (g .after s)
   unfolding solvedWith
-  done-leaves = left-done _ _ _ number (z .leaves) first-is
+  done-leaves = left-done _ _ _ (λ y. y .refusal) (λ k. refl) refl number (z .leaves) done
 
   module _ (w : LeftVectors g) where
     left-estimate : w .estimateOf (x .lent) ≡ s .estimate

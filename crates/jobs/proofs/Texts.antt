@@ -12,7 +12,7 @@ use Rattle.numbers.specs.Numbers.{+0}
 use Rattle.refusals.specs.Refusals.{_or_, _when_, unlike, nodes, links, listed, lengths, weights, settings}
 use Rattle.refusals.specs.Calls.{Left, left, call}
 use Rattle.refusals.specs.declared.Settings.{Settings}
-use Rattle.refusals.proofs.Laws.{Alike}
+use Rattle.refusals.proofs.Laws.{AsStated}
 use Rattle.rules.specs.Rules.{State}
 use Rattle.calls.specs.declared.Solved.{Solved}
 use Rattle.calls.specs.Lent.{SolveLent, LinksLent, solveLengths, solving}
@@ -42,10 +42,10 @@ pub text-done : (number : ℕ) (done : List ℕ) {text text′ : List ℕ} {r : 
 text-done number done h g = rw (text-of number done h) g
 
 -- lengths that are as stated fail no test
-alike-lengths : (ps : List (ℕ × ℕ)) → Alike ps → unlike false ps ≡ false
+stated-lengths : (ps : List (ℕ × ℕ)) → AsStated ps → unlike false ps ≡ false
 unfolding unlike
-alike-lengths [] h = refl
-alike-lengths (p ∷ ps) h = rw (eq-eqb (p .0) (p .1) (h .0)) (alike-lengths ps (h .1))
+stated-lengths [] h = refl
+stated-lengths (p ∷ ps) h = rw (eq-eqb (p .0) (p .1) (h .0)) (stated-lengths ps (h .1))
 
 -- the answer's text, by the solve's first number and the state that it ends in
 answer-text : {B : Type 0} (number : ℕ) (g : Given State B) (s : State) (norm : Float) (w : LeftVectors g) {r : Solved} {b : B} → left r b ≡ solvedWith number g s norm
@@ -58,7 +58,7 @@ answer-text {B} (suc k) g s norm w e = ap (λ (x : Left Solved B). answerText (x
 module _ (n : ℕ) (from to : List ℕ) (weight : List Float) (sources : List ℕ) (s : Settings) where
   -- all lengths are as stated
   all-alike : (b : LinksLent SolveLent) → ListsLong (length from) to weight → RowsLong n (length from) (b .starts) (b .columns) (b .weights) → SolveLong n (b .rest)
-      → Alike ((length to, length from) ∷ (length weight, length from) ∷ (length (b .starts), n + 1) ∷ (length (b .columns), length from) ∷ (length (b .weights), length from) ∷ solveLengths n (b .rest))
+      → AsStated ((length to, length from) ∷ (length weight, length from) ∷ (length (b .starts), n + 1) ∷ (length (b .columns), length from) ∷ (length (b .weights), length from) ∷ solveLengths n (b .rest))
   all-alike b l r v =
       (l .to-long, (l .weight-long, (r .starts-long, (r .columns-long, (r .weights-long, (v .estimate-long, (v .residual-long, (v .degrees-long, (v .priorities-long, (v .nodes-long, (v .queued-long, (v .visited-long, tt))))))))))))
 
@@ -67,7 +67,7 @@ module _ (n : ℕ) (from to : List ℕ) (weight : List Float) (sources : List �
       → givenLinks solving n from to weight b .tests (length sources) or settings s ≡ refusal (job n from to weight sources s)
   unfolding givenLinks refusal lengths unlike
   number-is b l r v =
-      ap (λ (x : ℕ). ((nodes n or links (length from) or listed (length sources) or x) or weights weight) or settings s) (ap (λ (x : Bool). 3 when x) (alike-lengths ((length to, length from) ∷ (length weight, length from) ∷ (length (b .starts), n + 1) ∷ (length (b .columns), length from) ∷ (length (b .weights), length from) ∷ solveLengths n (b .rest)) (all-alike b l r v)))
+      ap (λ (x : ℕ). ((nodes n or links (length from) or listed (length sources) or x) or weights weight) or settings s) (ap (λ (x : Bool). 3 when x) (stated-lengths ((length to, length from) ∷ (length weight, length from) ∷ (length (b .starts), n + 1) ∷ (length (b .columns), length from) ∷ (length (b .weights), length from) ∷ solveLengths n (b .rest)) (all-alike b l r v)))
 
   -- what is written of the solve's answer is the job's text
   pub solve-writes : (b : LinksLent SolveLent) → ListsLong (length from) to weight → RowsLong n (length from) (b .starts) (b .columns) (b .weights) → SolveLong n (b .rest)

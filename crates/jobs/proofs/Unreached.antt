@@ -9,7 +9,7 @@ use Rattle.numbers.specs.Numbers.{+0}
 use Rattle.graph.specs.Rows.{Link, linksOf}
 use Rattle.rules.specs.Rules.{unwatched}
 use Rattle.rules.specs.Reach.{Reached, SameReached, Alike, Untouched, keptLinks}
-use Rattle.rules.proofs.Lengths.{Sized, solve-sized}
+use Rattle.rules.proofs.Lengths.{Spans, solve-spans}
 use Rattle.rules.proofs.Unreached.{unreached, forward-alike}
 use Rattle.job_text.specs.Text.{nodeLine, nodeLines}
 use Rattle.job_text.proofs.NodeLines.{line-at}
@@ -24,9 +24,9 @@ given-links j = linksOf (j .from) (j .to) (j .weight)
 
 module _ (j : Job) where
   -- the lists of the state that the solve ends in have a place for each node
-  end-sized : Sized (j .nodes) (end j)
+  end-spans : Spans (j .nodes) (end j)
   unfolding end
-  end-sized = solve-sized _ _ _ _ _
+  end-spans = solve-spans _ _ _ _ _
 
   -- such a node is untouched
   end-untouched : (v : ℕ) → v < j .nodes → ¬ Reached (keptLinks (j .nodes) (given-links j)) (j .nodes) (j .sources) v → Untouched (end j) v
@@ -38,7 +38,7 @@ module _ (j : Job) where
       → nodeLines 0 (end j .estimate) (end j .residual)
       ≡ nodeLines 0 (take v (end j .estimate)) (take v (end j .residual)) ++ (nodeLine v +0 +0 ++ nodeLines (suc v) (drop (suc v) (end j .estimate)) (drop (suc v) (end j .residual)))
   unreached-line v h off =
-      let z = end-sized in
+      let z = end-spans in
       let u = end-untouched v h off in
       rw (u .score, u .remainder) at (line-at v (end j .estimate) (end j .residual) nan (rw (z .estimate-long) h) (z .residual-long ∙ sym (z .estimate-long)))
 

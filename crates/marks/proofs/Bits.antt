@@ -14,10 +14,10 @@ pub bit-lt : (a j : ℕ) → bit a j < 2
 bit-lt a j = mod-lt (a / 2 ^ j) (zero-lt-suc 1)
 
 -- what holds of 0 and of 1 holds of each digit
-pub digit : (P : ℕ → Type 0) → P 0 → P 1 → (x : ℕ) → x < 2 → P x
-digit P a b zero h = a
-digit P a b (suc zero) h = b
-digit P a b (suc (suc x)) h = absurd (not-suc-le-zero (le-of-suc-le-suc (le-of-suc-le-suc h)))
+pub zero-or-one : (P : ℕ → Type 0) → P 0 → P 1 → (x : ℕ) → x < 2 → P x
+zero-or-one P a b zero h = a
+zero-or-one P a b (suc zero) h = b
+zero-or-one P a b (suc (suc x)) h = absurd (not-suc-le-zero (le-of-suc-le-suc (le-of-suc-le-suc h)))
 
 -- ---- each operation, bit by bit
 or-bit : (a b j : ℕ) → bit (bitOr a b) j ≡ bitOr (bit a j) (bit b j)
@@ -52,7 +52,7 @@ not-bit m j h l =
     ap (λ (x : ℕ). bit x j) (complement 64 m h)
     ∙ xor-bit (2 ^ 64 - 1) m j
     ∙ ap (λ (x : ℕ). bitXor x (bit m j)) (ap (λ (x : ℕ). bit (2 ^ x - 1) j) width ∙ ones-bit (64 - suc j) j)
-    ∙ digit (λ (x : ℕ). bitXor 1 x ≡ 1 - x) refl refl (bit m j) (bit-lt m j)
+    ∙ zero-or-one (λ (x : ℕ). bitXor 1 x ≡ 1 - x) refl refl (bit m j) (bit-lt m j)
   where
     width : 64 ≡ suc (64 - suc j) + j
     width = omega arith

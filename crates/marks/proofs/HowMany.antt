@@ -13,7 +13,7 @@ use lib.Pow.{shr-lt, shr-shr}
 use lib.Arith.{lt-one}
 use lib.Count.{ones, ones-step}
 use Rattle.marks.specs.Marks.{bit, marked, allOnes, howMany}
-use Rattle.marks.proofs.Bits.{digit}
+use Rattle.marks.proofs.Bits.{zero-or-one}
 
 -- ---- word by word
 all-ones-append : (s t : List ℕ) → allOnes (s ++ t) ≡ allOnes s + allOnes t
@@ -65,7 +65,7 @@ word-count (suc k) w h =
 
     lowest : w % 2 ≡ howMany 1 test
     lowest =
-        sym (digit (λ (x : ℕ). cond (eqb x 1) 1 0 ≡ x) refl refl (w % 2) (mod-lt w (zero-lt-suc 1)))
+        sym (zero-or-one (λ (x : ℕ). cond (eqb x 1) 1 0 ≡ x) refl refl (w % 2) (mod-lt w (zero-lt-suc 1)))
         ∙ ap (λ (x : ℕ). cond (eqb (x % 2) 1) 1 0) (sym (div-one w)) ∙ sym (add-zero (cond (test 0) 1 0))
 
     further : howMany k (λ j. eqb (bit (w / 2) j) 1) ≡ howMany k (λ j. test (1 + j))

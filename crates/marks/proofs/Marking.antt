@@ -12,7 +12,7 @@ use lib.Seq.{getD-set-same, getD-set-other}
 use lib.Dec.{eqb}
 use lib.Bits.{bitAnd, bitOr, or-zero-r, and-zero-r, and-mask}
 use Rattle.marks.specs.Marks.{bit, marked, WithMark}
-use Rattle.marks.proofs.Bits.{bit-lt, digit, one-here, one-elsewhere, or-mask, and-not-mask}
+use Rattle.marks.proofs.Bits.{bit-lt, zero-or-one, one-here, one-elsewhere, or-mask, and-not-mask}
 
 -- the word of v changed in v's bit alone
 changed : (mark : Bool) (ws : List ℕ) (v w : ℕ) → v / 64 < length ws → eqb (bit w (v % 64)) 1 ≡ mark
@@ -51,7 +51,7 @@ module _ (ws : List ℕ) (v : ℕ) (fits : v / 64 < length ws) where
   mark-law =
       changed true ws v (bitOr word (1 * 2 ^ place % 2 ^ 64)) fits
       (ap (λ (x : ℕ). eqb x 1)
-      (or-mask word place place small ∙ ap (bitOr (bit word place)) (one-here place) ∙ digit (λ (x : ℕ). bitOr x 1 ≡ 1) refl refl (bit word place) (bit-lt word place)))
+      (or-mask word place place small ∙ ap (bitOr (bit word place)) (one-here place) ∙ zero-or-one (λ (x : ℕ). bitOr x 1 ≡ 1) refl refl (bit word place) (bit-lt word place)))
       (λ j l ne. or-mask word place j small ∙ ap (bitOr (bit word j)) (one-elsewhere place j ne) ∙ or-zero-r (bit word j))
 
   -- what `unmark` leaves
@@ -62,7 +62,7 @@ module _ (ws : List ℕ) (v : ℕ) (fits : v / 64 < length ws) where
       (and-not-mask word place place small small ∙ ap (λ (x : ℕ). bitAnd (bit word place) (1 - x)) (one-here place) ∙ and-zero-r (bit word place)))
       (λ j l ne.
       and-not-mask word place j small l ∙ ap (λ (x : ℕ). bitAnd (bit word j) (1 - x)) (one-elsewhere place j ne)
-      ∙ digit (λ (x : ℕ). bitAnd x 1 ≡ x) refl refl (bit word j) (bit-lt word j))
+      ∙ zero-or-one (λ (x : ℕ). bitAnd x 1 ≡ x) refl refl (bit word j) (bit-lt word j))
 
 -- what `is_marked` tests
 pub test-law : (ws : List ℕ) (v : ℕ) → eqb (bitAnd (getD ws (v / 64) 0 / 2 ^ (v % 64)) 1) 1 ≡ marked ws v

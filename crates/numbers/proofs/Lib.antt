@@ -4,3 +4,4 @@ pub mod Choice
 pub mod Order
 pub mod Tables
 pub mod Over
+pub mod Zeros

@@ -11,7 +11,9 @@ use lib.Dec.{leb, ltb}
 use borrow.Author.Tests.{eqb-true, ltb-false, leb-false, not-false}
 use Rattle.numbers.proofs.Tests.{neither}
 use Rattle.numbers.specs.Tables.{any}
-use Rattle.refusals.specs.Refusals.{_or_, _when_, falls, unlike, nodes, links, listed, lengths, sizes, rows, linkTests, rowTests}
+use Rattle.numbers.specs.Numbers.{+0, one}
+use Rattle.refusals.specs.declared.Settings.{Settings}
+use Rattle.refusals.specs.Refusals.{_or_, _when_, within, falls, unlike, nodes, links, listed, lengths, sizes, rows, alphas, settings, linkTests, rowTests}
 use Rattle.refusals.specs.Calls.{Left, left, call}
 
 -- ---- the first number
@@ -43,9 +45,9 @@ when-zero k false h = refl
 -- ---- lengths
 
 -- the two numbers of each pair are equal
-abbrev pub Alike : List (ℕ × ℕ) → Type 0
-Alike [] = Unit
-Alike (p ∷ ps) = (p .0 ≡ p .1) × Alike ps
+abbrev pub AsStated : List (ℕ × ℕ) → Type 0
+AsStated [] = Unit
+AsStated (p ∷ ps) = (p .0 ≡ p .1) × AsStated ps
 
 -- what is under `unlike` fails where it fails
 unlike-false : (b : Bool) (ps : List (ℕ × ℕ)) → unlike b ps ≡ false → b ≡ false
@@ -54,10 +56,10 @@ unlike-false b [] h = h
 unlike-false b (p ∷ ps) h = neither b _ (unlike-false _ ps h) .0
 
 -- all lengths are as stated
-pub alike : (b : Bool) (ps : List (ℕ × ℕ)) → unlike b ps ≡ false → Alike ps
+pub as-stated : (b : Bool) (ps : List (ℕ × ℕ)) → unlike b ps ≡ false → AsStated ps
 unfolding unlike
-alike b [] h = tt
-alike b (p ∷ ps) h = (eqb-true _ _ (not-false _ (neither b _ (unlike-false _ ps h) .1)), alike _ ps h)
+as-stated b [] h = tt
+as-stated b (p ∷ ps) h = (eqb-true _ _ (not-false _ (neither b _ (unlike-false _ ps h) .1)), as-stated _ ps h)
 
 -- ---- what a call has that is not refused
 
@@ -66,7 +68,7 @@ pub record Sized (n m s : ℕ) (ps : List (ℕ × ℕ)) : Type 0 where
   pub nodes : n ≤ 65536
   pub links : m ≤ 1048576
   pub listed : s ≤ 65536
-  pub long : Alike ps
+  pub long : AsStated ps
 
 -- from the number
 pub sized : (n m s : ℕ) (ps : List (ℕ × ℕ)) → sizes n m s ps ≡ 0 → Sized n m s ps
@@ -79,8 +81,13 @@ sized n m s ps h =
       nodes = ltb-false _ _ (when-zero 0 _ (a .0));
       links = ltb-false _ _ (when-zero 1 _ (b .0));
       listed = ltb-false _ _ (when-zero 1 _ (d .0));
-      long = alike false ps (when-zero 2 _ (d .1));
+      long = as-stated false ps (when-zero 2 _ (d .1));
     }
+
+-- by its settings: alpha is a part
+pub alpha-within : (s : Settings) → settings s ≡ 0 → within +0 one (s .alpha) ≡ true
+unfolding settings alphas
+alpha-within s h = not-false _ (when-zero 5 _ (or-zero _ _ h .0))
 
 -- no element is of the kind
 none : {A : Type 0} (p : A → Bool) (d : A) (xs : List A) → any p xs ≡ false → (i : ℕ) → i < length xs → p (getD xs i d) ≡ false
@@ -143,11 +150,18 @@ module _ {A B : Type 0} (answer : ℕ → A) (lent : B) (done : Left A B) where
   unfolding call
   accepted k e h g = rw (sym e ∙ h) g
 
-  -- what a call leaves whose number is 0
-  pub left-done : (k : ℕ) {x : Left A B} → x ≡ call k answer lent done → k ≡ 0 → x ≡ done
-  unfolding call
-  left-done zero e h = e
-  left-done (suc k) e h = absurd (omega arith)
+  -- where an answer says its number, a refusal its own and a done call 0
+  module _ (number : A → ℕ) (own : (k : ℕ) → number (answer k) ≡ k) (none-done : number (done .answer) ≡ 0) where
+    -- a call that answers 0 has the number 0
+    pub number-zero : (k : ℕ) {x : Left A B} → x ≡ call k answer lent done → number (x .answer) ≡ 0 → k ≡ 0
+    unfolding call
+    number-zero zero e h = refl
+    number-zero (suc k) e h = sym (own (suc k)) ∙ sym (ap (λ (y : Left A B). number (y .answer)) e) ∙ h
+
+    -- and leaves what it should
+    pub left-done : (k : ℕ) {x : Left A B} → x ≡ call k answer lent done → number (x .answer) ≡ 0 → x ≡ done
+    unfolding call
+    left-done k e h = e ∙ ap (λ (j : ℕ). call j answer lent done) (number-zero k e h)
 
 -- Two calls leave the same where one equation says what they leave.
 pub agree : {A : Type 0} {x y z : A} → x ≡ z → y ≡ z → x ≡ y

@@ -14,7 +14,7 @@ use Rattle.queue.proofs.Taken.{out-waits, taken-length}
 use Rattle.rules.specs.Ways.{Way}
 use Rattle.rules.specs.Rules.{State, Watch, blank, queued, counted, due, visit, turn, onward, run, start, enough, solve}
 use Rattle.rules.proofs.Onward.{onward-by, onward-both}
-use Rattle.rules.proofs.Lengths.{start-sized}
+use Rattle.rules.proofs.Lengths.{start-spans}
 use Rattle.rules.proofs.Uncounted.{Uncounted, push-uncounted, start-uncounted}
 use Rattle.rules.proofs.Due.{MayGo, due-may-go}
 
@@ -142,7 +142,7 @@ module _ (way : Way) (settings : Settings) (watch : Watch) where
     start-measure =
         let h = start-uncounted way settings watch n sources in
         let l = taken-length (start way settings watch n sources .slots) in
-        let e = start-sized way settings watch n sources .slots-long in
+        let e = start-spans way settings watch n sources .slots-long in
         rw (h .pushes, e, sub-zero) (omega (arith, rw e at l))
 
     -- A solve ends where it is nobody's turn: no push is left, or the early stop says so, or nobody waits.

@@ -17,16 +17,16 @@ abbrev pub Any : ℕ → Type 0
 Any v = Unit {0}
 
 -- each list has n places
-pub record Sized (n : ℕ) (s : State) : Type 0 where
+pub record Spans (n : ℕ) (s : State) : Type 0 where
   pub estimate-long : length (s .estimate) ≡ n
   pub residual-long : length (s .residual) ≡ n
   pub slots-long : length (s .slots) ≡ n
   pub visited-long : length (s .visited) ≡ n
 
 -- the moves keep the lengths
-pub sized : (n : ℕ) → KeepsTurn Any (Sized n)
+pub spans : (n : ℕ) → KeepsTurn Any (Spans n)
 unfolding queued gain absorb counted
-sized n =
+spans n =
     record {
       in-push =
           record {
@@ -44,17 +44,17 @@ sized n =
     }
 
 -- the blank state has them
-blank-sized : (n : ℕ) (threshold : Float) → Sized n (blank n threshold)
+blank-spans : (n : ℕ) (threshold : Float) → Spans n (blank n threshold)
 unfolding blank
-blank-sized n threshold =
+blank-spans n threshold =
     record { estimate-long = length-replicate n _; residual-long = length-replicate n _; slots-long = length-replicate n _; visited-long = length-replicate n _ }
 
 module _ (way : Way) (settings : Settings) (watch : Watch) (n : ℕ) (sources : List ℕ) where
   -- and so the start
-  pub start-sized : Sized n (start way settings watch n sources)
-  start-sized = start-keeps way Any (Sized n) (sized n .in-push) settings watch n sources (λ v m. tt) (blank-sized n _)
+  pub start-spans : Spans n (start way settings watch n sources)
+  start-spans = start-keeps way Any (Spans n) (spans n .in-push) settings watch n sources (λ v m. tt) (blank-spans n _)
 
   -- and the end
-  pub solve-sized : Sized n (solve way settings watch n sources)
+  pub solve-spans : Spans n (solve way settings watch n sources)
   unfolding solve
-  solve-sized = run-keeps way settings watch Any (Sized n) (sized n) (λ v r x m. tt) (λ s h v p e. tt) (enough settings n) _ start-sized
+  solve-spans = run-keeps way settings watch Any (Spans n) (spans n) (λ v r x m. tt) (λ s h v p e. tt) (enough settings n) _ start-spans

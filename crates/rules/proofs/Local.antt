@@ -19,7 +19,7 @@ use Rattle.rules.proofs.Lists.{all-alike, other-default}
 use Rattle.rules.proofs.Each.{each-same}
 use Rattle.rules.proofs.Onward.{onward-both}
 use Rattle.rules.proofs.Keeps.{Closed, KeepsTurn, turn-keeps, run-keeps, start-keeps}
-use Rattle.rules.proofs.Lengths.{solve-sized}
+use Rattle.rules.proofs.Lengths.{solve-spans}
 use Rattle.rules.proofs.Due.{due-may-go}
 
 -- the two ways agree on R: in the rows of its nodes, and in what an entry gets that leads to one of them
@@ -126,7 +126,7 @@ module _ (R : ℕ → Type 0) (a : Way) (c : Closed R a) (settings : Settings) (
   pub solve-off : (v : ℕ) → v < n → ¬ R v → Untouched (solve a settings watch n sources) v
   solve-off v l off =
       let s = solve a settings watch n sources in
-      let z = solve-sized a settings watch n sources in
+      let z = solve-spans a settings watch n sources in
       record {
         score = other-default (s .estimate) v nan +0 (rw (z .estimate-long) l) ∙ solve-on .estimates v off;
         remainder = other-default (s .residual) v nan +0 (rw (z .residual-long) l) ∙ solve-on .residuals v off;

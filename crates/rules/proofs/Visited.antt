@@ -20,7 +20,7 @@ use Rattle.rules.specs.Answers.{visitedCount}
 use Rattle.rules.specs.Pushed.{pushed, distinct}
 use Rattle.rules.proofs.Onward.{onward-both}
 use Rattle.rules.proofs.Keeps.{turn-keeps}
-use Rattle.rules.proofs.Lengths.{Any, Sized, sized, start-sized, solve-sized}
+use Rattle.rules.proofs.Lengths.{Any, Spans, spans, start-spans, solve-spans}
 use Rattle.rules.proofs.Uncounted.{Uncounted, push-uncounted, start-uncounted}
 use Rattle.rules.proofs.Due.{due-inside}
 use Rattle.rules.proofs.Distinct.{distinct-count}
@@ -73,13 +73,13 @@ module _ (way : Way) (settings : Settings) (watch : Watch) (n : ℕ) where
       by false h = logged-push n settings v s _ t log l z (push-uncounted way (settings .alpha) v s) h
 
   -- a run
-  run-logged : (turns : ℕ) (s : State) → Sized n s → Logged n s (run way settings watch turns s) (pushed way settings watch turns s)
+  run-logged : (turns : ℕ) (s : State) → Spans n s → Logged n s (run way settings watch turns s) (pushed way settings watch turns s)
   unfolding run pushed
   run-logged zero s z = logged-none n s
   run-logged (suc turns) s z =
       onward-both (Logged n s) (due settings watch s) s [] _ _ (λ e. logged-none n s)
       (λ v p e. logged-turn v s _ _ (subst (λ (k : ℕ). v < k) (z .slots-long) (due-inside settings watch s v p e)) (z .visited-long)
-      (run-logged turns (turn way settings v s) (turn-keeps way settings watch Any (Sized n) (sized n) (λ u r x m. tt) v s tt z)))
+      (run-logged turns (turn way settings v s) (turn-keeps way settings watch Any (Spans n) (spans n) (λ u r x m. tt) v s tt z)))
 
   module _ (sources : List ℕ) where
     -- the nodes that a solve pushes
@@ -89,7 +89,7 @@ module _ (way : Way) (settings : Settings) (watch : Watch) (n : ℕ) where
     -- all of a solve
     solve-logged : Logged n (start way settings watch n sources) (solve way settings watch n sources) solve-pushed
     unfolding solve
-    solve-logged = run-logged (enough settings n) _ (start-sized way settings watch n sources)
+    solve-logged = run-logged (enough settings n) _ (start-spans way settings watch n sources)
 
     -- The push count is the number of pushes.
     pub pushes-are : solve way settings watch n sources .pushes ≡ length solve-pushed
@@ -100,7 +100,7 @@ module _ (way : Way) (settings : Settings) (watch : Watch) (n : ℕ) where
     pub visited-are : visitedCount (solve way settings watch n sources) ≡ length (distinct solve-pushed)
     unfolding visitedCount blank
     visited-are =
-        rw (solve-sized way settings watch n sources .visited-long)
+        rw (solve-spans way settings watch n sources .visited-long)
         (how-many-same n _ _ (λ v l. solve-logged .marks v ∙ ap (λ (b : Bool). b || any (eqb v) solve-pushed) (unmarked v)) ∙ distinct-count n solve-pushed (solve-logged .below))
       where
         unmarked : (v : ℕ) → getD (start way settings watch n sources .visited) v false ≡ false

@@ -50,7 +50,7 @@ pub record SameReaching (row other : ℕ → List Entry) (n : ℕ) (targets : Li
   pub nodes : (v : ℕ) → Reaches row n targets v ↔ Reaches other n targets v
   pub links : (v : ℕ) → Reaches row n targets v → row v ≡ other v
 
--- forward, or backward
+-- the links of every node that is connected are the same, as the direction has it
 abbrev pub SameConnected : Bool → (ℕ → List Entry) → (ℕ → List Entry) → ℕ → List ℕ → Type 0
 SameConnected false row other n list = SameReached row other n list
 SameConnected true row other n list = SameReaching row other n list

@@ -10,7 +10,7 @@ use Rattle.calls.specs.Outcomes.{givenRows}
 use Rattle.calls.proofs.Left.{call-refused, call-done}
 use Rattle.calls.proofs.Asked.{rows-asked}
 use Rattle.calls.proofs.Fits.{fits}
-use Rattle.calls.proofs.Lengths.{told, told-unlike, sized-behind, rows-besides}
+use Rattle.calls.proofs.Lengths.{failing, failing-unlike, sized-behind, rows-besides}
 use Rattle.backward_push.specs.Lent.{backLent, reversing}
 use borrow.Author.Needs.{needs}
 use Rattle.backward_rows.proofs.checked_rows.Statement.{statement}
@@ -47,8 +47,8 @@ solve-rows-requires : tie.Need-solve-rows-requires
 solve-rows-requires c κs =
     let s = c .before .before .before .before .before .before .before .before .before .before .before .before .before .before .before .before .before .before .before .before .before .before .before .before .before .before .before .before .before .before .before in
     let a = s .args in
-    let t = told (a .other) in
-    let q = rows-asked (besides t reversing) (a .listed) _ _ _ _ _ _ (number (c .before .before .before .before .before .before .before .before .before .before .before .before) t (told-unlike (a .other))) (c .before .before .before .before .before .before .before .before .before .before .before .if1 .left) in
+    let t = failing (a .other) in
+    let q = rows-asked (besides t reversing) (a .listed) _ _ _ _ _ _ (number (c .before .before .before .before .before .before .before .before .before .before .before .before) t (failing-unlike (a .other))) (c .before .before .before .before .before .before .before .before .before .before .before .if1 .left) in
     let z = sized-behind t _ (q .1) in
     let l = z .long in
     let f = fits _ _ (s .pre) (record { nodes = z .nodes; links = z .links; listed = z .listed; long = l .1 .1 .1 .1 }) in (
