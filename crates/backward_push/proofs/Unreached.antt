@@ -7,7 +7,7 @@ use mathlib.Core.Path.{_≡_, refl, sym, ap, subst, _∙_}
 use lib.Ieee.{Float, nan}
 use Rattle.numbers.specs.Numbers.{+0}
 use Rattle.numbers.proofs.Tables.{getD-tabulate}
-use Rattle.numbers.proofs.Zeros.{part-of-nothing}
+use Rattle.numbers.proofs.Zeros.{part-finite, plus-zero, times-zero, zero-added}
 use Rattle.refusals.specs.Refusals.{_or_, settings}
 use Rattle.refusals.specs.Calls.{Left}
 use Rattle.refusals.specs.declared.Settings.{Settings}
@@ -56,7 +56,7 @@ unreaching-extrapolated : {S B : Type 0} (g : Given S B) (target : ℕ) (s : Set
 unfolding extrapolated
 unreaching-extrapolated g target s ok v l off =
     let u = unconnected-ends backward g s unwatched (target ∷ []) v l off in
-    rw (getD-tabulate (g .nodes) _ v nan l, u .score, u .remainder) (part-of-nothing (s .alpha) (alpha-within s ok))
+    rw (getD-tabulate (g .nodes) _ v nan l, u .score, u .remainder) (zero-added (times-zero (s .alpha) (part-finite (s .alpha) (alpha-within s ok)) (plus-zero refl)))
 
 module _ (n target : ℕ) (s : Settings) (from to : List ℕ) (weight : List Float) (b : LinksLent ReachLent) where
   -- the call

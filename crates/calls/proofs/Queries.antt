@@ -42,27 +42,28 @@ module _ {B : Type 0} (g : Given State B) (s : State) (v : ℕ) where
 
 module _ (backward : Bool) (settings : Settings) (v w : ℕ) where
   -- the scores of the solve
-  abbrev scores : {B : Type 0} → Given State B → List Float
+  abbrev scores : {S B : Type 0} → Given S B → List Float
   scores g = ends backward g settings unwatched (v ∷ []) .estimate
 
   -- are as many as the nodes
-  scores-long : {B : Type 0} (g : Given State B) → length (scores g) ≡ g .nodes
+  scores-long : {S B : Type 0} (g : Given S B) → length (scores g) ≡ g .nodes
   unfolding ends
   scores-long g = solve-spans (over backward (g .nodes) (g .rows)) settings unwatched (g .nodes) (v ∷ []) .estimate-long
 
-  -- that of a node which is not connected is +0, in range or not
-  unconnected-score : {B : Type 0} (g : Given State B) → ¬ Connected backward (rowAt (g .rows)) (g .nodes) (v ∷ []) w → getD (scores g) w +0 ≡ +0
+  -- that of a node which is not connected, or not in range, is +0
+  pub unconnected-score : {S B : Type 0} (g : Given S B) → (w < g .nodes → ¬ Connected backward (rowAt (g .rows)) (g .nodes) (v ∷ []) w)
+      → scoreAt (ends backward g settings unwatched (v ∷ [])) w ≡ +0
+  unfolding scoreAt
   unconnected-score g off = go (decLt w (g .nodes))
     where
       go : Dec (w < g .nodes) → getD (scores g) w +0 ≡ +0
-      go (yes l) = other-default (scores g) w +0 nan (rw (scores-long g) l) ∙ unconnected-ends backward g settings unwatched (v ∷ []) w l off .score
+      go (yes l) = other-default (scores g) w +0 nan (rw (scores-long g) l) ∙ unconnected-ends backward g settings unwatched (v ∷ []) w l (off l) .score
       go (no h) = List·getD-eq-default (scores g) +0 (omega (arith, scores-long g))
 
   -- A query of a node that is not connected answers +0.
   pub no-score-queried : {B : Type 0} (g : Given State B) → ¬ Connected backward (rowAt (g .rows)) (g .nodes) (v ∷ []) w
       → queriesOne backward g v w settings .answer .score ≡ +0
-  unfolding scoreAt
-  no-score-queried g off = zero-answered g _ w (unconnected-score g off) _
+  no-score-queried g off = zero-answered g _ w (unconnected-score g (λ l. off)) _
 
   -- Where the links are the same for every node that is connected, two queries answer the same.
   pub same-queried : {B C : Type 0} (g : Given State B) (h : Given State C) → h .nodes ≡ g .nodes → SameConnected backward (rowAt (g .rows)) (rowAt (h .rows)) (g .nodes) (v ∷ [])

@@ -1,2 +1,3 @@
--- The theorem that the call has one outcome.
+-- The theorems on the call: it has one outcome, and what is combined to nothing.
 pub mod One
+pub mod Nothing
