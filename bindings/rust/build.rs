@@ -9,7 +9,8 @@ fn main() {
         stop(&format!("the static libraries are for x86-64, and this build is for {processor}"));
     }
     let crates = root.join("crates");
-    let mut names: Vec<String> = files(&crates).into_iter().filter(|name| exports(&crates.join(name).join("src"))).collect();
+    let mut names: Vec<String> =
+        files(&crates).into_iter().filter(|name| exports(&crates.join(name).join("src"))).collect();
     names.sort();
     let folder = root.join("target/staticlib");
     let archive = |name: &str| folder.join(format!("lib{name}.a"));

@@ -27,8 +27,7 @@ impl Rows<'_> {
     pub fn from_matrix(&self) -> Result<Matrix, Refusal> {
         let (mut reverse, mut positions) = (RowSpace::new(self.size()), self.size().wholes());
         let (mut degrees, mut reverse_degrees) = (self.size().reals(), self.size().reals());
-        let number =
-            entries::from_matrix(*self, reverse.lent(), &mut degrees, &mut reverse_degrees, &mut positions);
+        let number = entries::from_matrix(*self, reverse.lent(), &mut degrees, &mut reverse_degrees, &mut positions);
         Refusal::unless_done(number).map(|()| Matrix { reverse: reverse.owned(), degrees, reverse_degrees })
     }
 

@@ -133,9 +133,8 @@ macro_rules! calls {
                 settings: Settings,
             ) -> Result<Solution, Refusal> {
                 let mut vectors = Vectors::new(self.size());
-                let solved = backward!(
-                    self, $with_source(source, target, source_precision, settings), $rows, vectors.lent()
-                );
+                let solved =
+                    backward!(self, $with_source(source, target, source_precision, settings), $rows, vectors.lent());
                 Solution::of(solved, vectors)
             }
 

@@ -16,13 +16,8 @@ fn p1_forward_from_the_chain() {
 
 #[test]
 fn p2_a_source_that_is_no_node_and_no_nodes_at_all() {
-    let nothing = Solution {
-        estimate: vec![0.0; 2],
-        residual: vec![0.0; 2],
-        push_count: 0,
-        nodes_visited: 0,
-        residual_norm: 0.0,
-    };
+    let nothing =
+        Solution { estimate: vec![0.0; 2], residual: vec![0.0; 2], push_count: 0, nodes_visited: 0, residual_norm: 0.0 };
     assert_eq!(CHAIN.solve_single_source(2, settings(10)), Ok(nothing.clone()));
     let none = Links { n: 0, from: &[], to: &[], weight: &[] };
     assert_eq!(none.solve_single_source(0, settings(10)), Ok(Solution { estimate: vec![], residual: vec![], ..nothing }));

@@ -162,11 +162,7 @@ fn first<I: Sync>(inputs: &[I], found: impl Fn(&I) -> bool + Sync) -> Option<usi
 }
 
 /// Goes from a differing input to smaller ones that differ too, until none is left, or patience is at an end.
-fn smallest<I: Clone>(
-    input: I,
-    difference: &impl Fn(&I) -> Option<String>,
-    smaller: &impl Fn(&I) -> Vec<I>,
-) -> I {
+fn smallest<I: Clone>(input: I, difference: &impl Fn(&I) -> Option<String>, smaller: &impl Fn(&I) -> Vec<I>) -> I {
     let start = Instant::now();
     let mut least = input;
     while let Some(next) = smaller(&least).into_iter().find(|i| start.elapsed() < PATIENCE && difference(i).is_some()) {

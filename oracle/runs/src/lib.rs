@@ -4,8 +4,8 @@ pub mod comparison;
 // The wrapper's own declarations: what it calls is what is compared.
 #[path = "../../../bindings/rust/src/entries/mod.rs"]
 pub mod entries;
-pub mod jobs;
 pub mod fenced;
+pub mod jobs;
 pub mod lent;
 pub mod patterns;
 pub mod random;

@@ -112,8 +112,7 @@ impl Written {
             "shown (solve (overLinks {direction} {n} links-{graph}) {direction}-{graph} {watch} {n} ({}))",
             nodes(from)
         );
-        let rust =
-            format!("outcome {pushes} {} ({}) ({})", r.nodes_visited, numbers(&r.estimate), numbers(&r.residual));
+        let rust = format!("outcome {pushes} {} ({}) ({})", r.nodes_visited, numbers(&r.estimate), numbers(&r.residual));
         self.equation(name, &rules, &rust);
         let statement = format!("Norm ({}) ({})", numbers(&r.residual), bits(r.residual_norm));
         self.fact(&format!("{name}-norm"), &statement, &root(r.residual_norm));

@@ -1,7 +1,7 @@
 //! One call of an entry that takes a graph: what it is given, and how long the buffers are that it is lent.
 use super::entry::{Entry, Form, Question};
-use repaired::graph::CompressedSparseRow;
 use crate::entries::Settings;
+use repaired::graph::CompressedSparseRow;
 use std::fmt::{Debug, Formatter, Result};
 
 /// A call, sound or damaged.
@@ -99,7 +99,11 @@ impl Call {
 
     /// The number m of listed links: the length of the from list, or of the column list.
     pub fn links(&self) -> usize {
-        if self.entry.takes_rows() { self.second.len() } else { self.first.len() }
+        if self.entry.takes_rows() {
+            self.second.len()
+        } else {
+            self.first.len()
+        }
     }
 
     /// The lengths that the buffers to be written should have.

@@ -131,7 +131,11 @@ impl Entry {
 
     /// The three buffers of its graph, which it reads.
     pub fn given(self) -> &'static [Shape; 3] {
-        if self.takes_rows() { &shape::ROWS } else { &shape::LIST }
+        if self.takes_rows() {
+            &shape::ROWS
+        } else {
+            &shape::LIST
+        }
     }
 
     /// The buffers that it writes, in the order of its parameters: those of its answer, and then workspace.

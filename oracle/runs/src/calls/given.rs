@@ -4,7 +4,11 @@ use repaired::graph::{CompressedSparseRow, PushGraph};
 
 /// The Rust's graph of a call on links or on rows.
 pub fn graph(call: &Call) -> PushGraph {
-    if call.entry.takes_rows() { PushGraph::from_matrix(&matrix(call)) } else { graph_of_links(call) }
+    if call.entry.takes_rows() {
+        PushGraph::from_matrix(&matrix(call))
+    } else {
+        graph_of_links(call)
+    }
 }
 
 pub fn graph_of_links(call: &Call) -> PushGraph {

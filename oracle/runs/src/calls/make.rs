@@ -1,6 +1,6 @@
 //! Makes a call: passes what it is given, and lends its buffers, to the entry that it names.
 use super::call::Call;
-use super::entry::{Task, Entry, Form, Question, Solver};
+use super::entry::{Entry, Form, Question, Solver, Task};
 use super::lending::{Lending, Slice};
 use super::outcome::Returned::{self, Built, Number, Scored, Solved};
 use crate::entries::{self, Links, Rows};
@@ -19,9 +19,7 @@ pub fn make<'a>(call: &Call, read: &Read, written: &mut dyn Iterator<Item = Slic
     let mut lent = Lending(written);
     match call.entry {
         Entry::FromEdges => Built(entries::from_edges(links, lent.rows(), lent.wholes())),
-        Entry::FromMatrix => {
-            Number(entries::from_matrix(rows, lent.rows(), lent.reals(), lent.reals(), lent.wholes()))
-        }
+        Entry::FromMatrix => Number(entries::from_matrix(rows, lent.rows(), lent.reals(), lent.reals(), lent.wholes())),
         Entry::Transpose => Number(entries::transpose(rows, lent.rows(), lent.wholes())),
         Entry::RowSums => Number(entries::row_sums(rows, lent.reals())),
         Entry::Solve(question, Form::Links) => of_links(call, question, links, read.many, lent),

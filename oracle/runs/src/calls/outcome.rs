@@ -1,5 +1,5 @@
 //! What a call comes to: what it returns, and what it leaves in its buffers.
-use super::entry::{Task, Entry, Question};
+use super::entry::{Entry, Question, Task};
 use crate::comparison::same;
 use crate::entries::{Built, Scored, Solved};
 
@@ -7,7 +7,10 @@ use crate::entries::{Built, Scored, Solved};
 pub enum Outcome {
     Refused(u32),
     /// The contents of the answer's buffers. The others are workspace, and all zero.
-    Done { returned: Returned, answer: Vec<Contents> },
+    Done {
+        returned: Returned,
+        answer: Vec<Contents>,
+    },
 }
 
 /// What a buffer of an answer holds.

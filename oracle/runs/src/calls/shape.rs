@@ -52,13 +52,9 @@ const fn real(name: &'static str, size: Size) -> Shape {
 }
 
 pub const LIST: [Shape; 3] = [whole("from", Size::Links), whole("to", Size::Links), real("weight", Size::Links)];
-pub const ROWS: [Shape; 3] =
-    [whole("starts", Size::Starts), whole("columns", Size::Links), real("weights", Size::Links)];
-pub const REVERSE_ROWS: [Shape; 3] = [
-    whole("reverse_starts", Size::Starts),
-    whole("reverse_columns", Size::Links),
-    real("reverse_weights", Size::Links),
-];
+pub const ROWS: [Shape; 3] = [whole("starts", Size::Starts), whole("columns", Size::Links), real("weights", Size::Links)];
+pub const REVERSE_ROWS: [Shape; 3] =
+    [whole("reverse_starts", Size::Starts), whole("reverse_columns", Size::Links), real("reverse_weights", Size::Links)];
 pub const POSITIONS: [Shape; 1] = [whole("positions", Size::Nodes)];
 pub const DEGREES: [Shape; 1] = [real("degrees", Size::Nodes)];
 pub const REVERSE_DEGREES: [Shape; 1] = [real("reverse_degrees", Size::Nodes)];

@@ -2,11 +2,11 @@
 //! and against the refusals of docs/RULES.md. Each call is compared whole: what it returns, and every word of every buffer.
 mod expected;
 
-use crate::Asked;
 use crate::calls::made::Made;
 use crate::calls::smaller::smaller;
 use crate::calls::sound::{MOST_LINKS, MOST_NODES};
 use crate::calls::{damaged, limits, lists};
+use crate::Asked;
 use repaired::graph::PushGraph;
 use runs::calls::call::Call;
 use runs::calls::entry::{Entry, BUILDERS};

@@ -49,7 +49,11 @@ impl Asked {
         if self.short {
             return gate.div_ceil(100);
         }
-        if self.full { full } else { gate }
+        if self.full {
+            full
+        } else {
+            gate
+        }
     }
 
     /// Whether graphs of so many nodes are drawn. A short run has large ones at the limits of size, and draws none.

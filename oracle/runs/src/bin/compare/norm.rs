@@ -26,9 +26,8 @@ pub fn compare(asked: &Asked, comparison: &mut Comparison, random: &mut Random) 
 
 fn difference(case: &Case) -> Option<String> {
     let norm = entries::compute_residual_norm(Lent::holding(&case.residual).slice());
-    (!same(norm, case.norm)).then(|| {
-        format!("compute_residual_norm gives {:016x}, the Rust {:016x}", norm.to_bits(), case.norm.to_bits())
-    })
+    (!same(norm, case.norm))
+        .then(|| format!("compute_residual_norm gives {:016x}, the Rust {:016x}", norm.to_bits(), case.norm.to_bits()))
 }
 
 /// What a solve of the repaired Rust on a random graph leaves.

@@ -5,12 +5,12 @@ mod boundaries;
 mod expected;
 mod watched;
 
-pub use adaptive::Layout;
-use crate::Asked;
 use crate::calls::made::Made;
 use crate::calls::smaller::smaller;
 use crate::calls::sound::{MOST_LINKS, MOST_NODES, MOST_OF_MANY};
 use crate::calls::{damaged, limits, lists, wishes};
+use crate::Asked;
+pub use adaptive::Layout;
 use runs::calls::call::{Call, Wish};
 use runs::calls::entry::{Entry, Form, Question, Solver, Task};
 use runs::calls::refusal::{misread, refusal};

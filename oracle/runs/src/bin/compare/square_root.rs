@@ -33,7 +33,11 @@ fn difference(ours: fn(f64) -> f64, p: &Pattern) -> Option<String> {
 pub fn planted(comparison: &mut Comparison, random: &mut Random) {
     let spoiled = |x: f64| {
         let root = entries::square_root(x);
-        if x.to_bits() >> 48 & 3 == 3 { f64::from_bits(root.to_bits() ^ 1) } else { root }
+        if x.to_bits() >> 48 & 3 == 3 {
+            f64::from_bits(root.to_bits() ^ 1)
+        } else {
+            root
+        }
     };
     let inputs = patterns::squares(random, 1_000).into_iter();
     comparison.kind("square_root, planted", inputs, |p| difference(spoiled, p), patterns::smaller);

@@ -1,9 +1,9 @@
 //! The two calls that take vectors and alpha alone, `extrapolated_solution` and `combine_with_forward`, against the
 //! Rust's, and against the refusals of docs/RULES.md.
-use crate::Asked;
 use crate::calls::buffer::{outside, unlike_numbers};
 use crate::calls::sound::MOST_NODES;
 use crate::calls::wishes::ALPHAS;
+use crate::Asked;
 use repaired::graph::PushGraph;
 use repaired::solver::backward_push::{BackwardPushConfig, BackwardPushResult, BackwardPushSolver};
 use repaired::solver::forward_push::{ForwardPushConfig, ForwardPushResult, ForwardPushSolver};
@@ -100,12 +100,7 @@ fn difference(case: &Case, planted: bool) -> Option<String> {
     found.map(|found| format!("{name} returns {found}"))
 }
 
-fn extrapolation_differs(
-    case: &Case,
-    estimate: &Lent<f64>,
-    residual: &Lent<f64>,
-    planted: bool,
-) -> Option<String> {
+fn extrapolation_differs(case: &Case, estimate: &Lent<f64>, residual: &Lent<f64>, planted: bool) -> Option<String> {
     let mut solution = Lent::patterned(case.length);
     let number = entries::extrapolated_solution(estimate.slice(), residual.slice(), case.alpha, solution.slice_mut());
     if let (true, Some(first)) = (planted, solution.slice_mut().first_mut()) {

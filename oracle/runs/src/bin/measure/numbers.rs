@@ -12,8 +12,7 @@ use std::hint::black_box;
 /// How many roots are taken at a time.
 const ROOTS: usize = 4_096;
 
-pub const NAMES: [&str; 4] =
-    ["square_root", "compute_residual_norm", "extrapolated_solution", "combine_with_forward"];
+pub const NAMES: [&str; 4] = ["square_root", "compute_residual_norm", "extrapolated_solution", "combine_with_forward"];
 
 pub fn measure() {
     table::head("Square root and vectors: time for each call", &["call", "numbers"], &COLUMNS);

@@ -1,10 +1,10 @@
 //! A buffer that a call was lent to write, and how its contents differ from what they should be.
-use Buffer::{Real, Whole, Wide};
 use runs::calls::lending::Slice;
 use runs::calls::outcome::Contents;
 use runs::calls::shape::Kind;
 use runs::comparison::same;
 use runs::lent::{Lent, Word};
+use Buffer::{Real, Whole, Wide};
 
 pub enum Buffer {
     Whole(Lent<u32>),
@@ -46,9 +46,7 @@ impl Buffer {
                 let place = lent.differs(right)?;
                 Some(format!("[{place}] is {}, where {} is right", lent.slice()[place], right[place]))
             }),
-            (Real(lent), Some(Contents::Real(right))) => {
-                outside(lent.guarded()).or_else(|| unlike_numbers(lent, right))
-            }
+            (Real(lent), Some(Contents::Real(right))) => outside(lent.guarded()).or_else(|| unlike_numbers(lent, right)),
             (Whole(lent), None) => not_cleared(lent),
             (Wide(lent), None) => not_cleared(lent),
             (Real(lent), None) => not_cleared(lent),

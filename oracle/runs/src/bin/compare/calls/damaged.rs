@@ -1,12 +1,12 @@
 //! Calls that break the conditions of docs/RULES.md: each refusal number, each two at once, and several.
-use runs::calls::call::Call;
-use runs::calls::entry::{Task, Entry};
-use runs::calls::refusal::applies;
-use runs::random::Random;
 use super::sound::{
     buffers, sound, with_length, with_links, with_nodes, MOST_LINKS, MOST_NODES, MOST_OF_MANY, MOST_PUSHES,
 };
 use super::wishes::{records, SettingsOf};
+use runs::calls::call::Call;
+use runs::calls::entry::{Entry, Task};
+use runs::calls::refusal::applies;
+use runs::random::Random;
 
 /// What makes a sound call break the condition of `number`. Damages of lower numbers go first: they set the sizes.
 pub struct Damage {
@@ -34,10 +34,8 @@ fn damage(number: u32, act: impl Fn(&mut Call) + 'static) -> Damage {
 
 /// Damages of the numbers 1, 2 and 3.
 fn of_sizes(entry: Entry) -> Vec<Damage> {
-    let mut found = vec![
-        damage(1, |call| *call = with_nodes(call.clone(), MOST_NODES + 1)),
-        damage(1, |call| call.nodes = u32::MAX),
-    ];
+    let mut found =
+        vec![damage(1, |call| *call = with_nodes(call.clone(), MOST_NODES + 1)), damage(1, |call| call.nodes = u32::MAX)];
     if entry.task() == Some(Task::Multi) {
         found.push(damage(2, |call| call.wish.many.resize(MOST_OF_MANY + 1, 1)));
     }

@@ -1,9 +1,9 @@
 //! Calls at the limits that docs/RULES.md sets to sizes, lengths, weights and rows, on both sides of each.
-use runs::calls::call::{Call, Wish};
-use runs::calls::entry::{Task, Entry};
-use runs::calls::shape::Size;
 use super::sound::{buffers, least, sound, with_length, with_links, with_nodes, MOST_LINKS, MOST_NODES};
 use super::wishes::records;
+use runs::calls::call::{Call, Wish};
+use runs::calls::entry::{Entry, Task};
+use runs::calls::shape::Size;
 
 /// Every weight at a limit or next to one, and every kind that is refused.
 const WEIGHTS: [f64; 20] = [

@@ -1,10 +1,10 @@
 //! A call that was made: what it returned, what it left in every buffer, and how that differs from an expected outcome.
+use super::buffer::Buffer::{self, Real};
 use runs::calls::call::Call;
 use runs::calls::make::{make, Read};
 use runs::calls::outcome::{Outcome, Returned};
 use runs::calls::shape::Shape;
 use runs::lent::{Lent, Word};
-use super::buffer::Buffer::{self, Real};
 
 pub struct Made<'a> {
     call: &'a Call,
@@ -23,8 +23,7 @@ impl<'a> Made<'a> {
         let (weights, many) = (Lent::holding(&call.weights), Lent::holding(&call.wish.many));
         let lend = |(shape, &length): (&Shape, &usize)| Buffer::patterned(shape.kind, length);
         let mut written: Vec<Buffer> = call.entry.written().iter().zip(&call.lengths).map(lend).collect();
-        let read =
-            Read { first: first.slice(), second: second.slice(), weights: weights.slice(), many: many.slice() };
+        let read = Read { first: first.slice(), second: second.slice(), weights: weights.slice(), many: many.slice() };
         let returned = make(call, &read, &mut written.iter_mut().map(Buffer::lend));
         Self { call, first, second, weights, many, written, returned }
     }
@@ -61,11 +60,8 @@ impl<'a> Made<'a> {
             !lent.guarded() || lent.differs(contents).is_some()
         }
         let call = self.call;
-        let graph = [
-            altered(&self.first, &call.first),
-            altered(&self.second, &call.second),
-            altered(&self.weights, &call.weights),
-        ];
+        let graph =
+            [altered(&self.first, &call.first), altered(&self.second, &call.second), altered(&self.weights, &call.weights)];
         let of_graph = call.entry.given().iter().zip(graph).find(|(_, altered)| *altered);
         let many = altered(&self.many, &call.wish.many).then_some("the list of sources or targets");
         of_graph.map(|(shape, _)| shape.name).or(many)

@@ -1,9 +1,9 @@
 //! Calls smaller than a given one, sound or damaged: fewer links, fewer nodes, a buffer of its stated length, plainer
 //! weights, lower ends, a plainer wish. Each is a call of its own, whose outcome is worked out anew.
+use super::wishes::{records, SettingsOf};
 use runs::calls::call::{Call, Wish, PLAIN_SETTINGS};
 use runs::comparison::same;
 use std::ops::Range;
-use super::wishes::{records, SettingsOf};
 
 /// Up to so many links, each link is tried by itself.
 const FEW: usize = 64;
@@ -28,7 +28,11 @@ pub fn smaller(call: &Call) -> Vec<Call> {
 
 /// The length, or 0 where single places are too many to be tried.
 fn few(length: usize) -> usize {
-    if length <= FEW { length } else { 0 }
+    if length <= FEW {
+        length
+    } else {
+        0
+    }
 }
 
 /// Parts of a list to be left out: all of it, its halves, its quarters and so on. Of many, only the one at the end:
@@ -112,7 +116,11 @@ fn one(_: f64) -> f64 {
 /// The power of two below; what has no digits past its first stays.
 fn digitless(weight: f64) -> f64 {
     let bits = weight.to_bits();
-    if weight.is_finite() && bits >> 52 & 0x7ff != 0 { f64::from_bits(bits >> 52 << 52) } else { weight }
+    if weight.is_finite() && bits >> 52 & 0x7ff != 0 {
+        f64::from_bits(bits >> 52 << 52)
+    } else {
+        weight
+    }
 }
 
 fn with_weights(call: &Call, chosen: impl Fn(usize) -> bool, simpler: fn(f64) -> f64) -> Option<Call> {

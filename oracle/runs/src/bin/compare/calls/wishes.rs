@@ -1,10 +1,10 @@
 //! What a solve is given beside its graph: at the limits, a few values of each, or drawn.
+use super::sound::{sound, MOST_PUSHES};
 use runs::calls::call::{Call, Wish};
-use runs::calls::entry::{Task, Entry};
+use runs::calls::entry::{Entry, Task};
 use runs::calls::refusal::refusal;
 use runs::entries::Settings;
 use runs::random::Random;
-use super::sound::{sound, MOST_PUSHES};
 
 /// Every alpha at a limit or next to one, and every kind that is refused.
 pub const ALPHAS: [f64; 18] = [
@@ -47,18 +47,8 @@ const NUMBERS: [f64; 15] = [
     f64::from_bits(0xfff8_0000_0000_0000),
 ];
 
-const PUSHES: [u64; 10] = [
-    0,
-    1,
-    2,
-    MOST_PUSHES - 1,
-    MOST_PUSHES,
-    MOST_PUSHES + 1,
-    u32::MAX as u64,
-    1 << 32,
-    1 << 63,
-    u64::MAX,
-];
+const PUSHES: [u64; 10] =
+    [0, 1, 2, MOST_PUSHES - 1, MOST_PUSHES, MOST_PUSHES + 1, u32::MAX as u64, 1 << 32, 1 << 63, u64::MAX];
 
 /// One of the settings records of a wish.
 pub type SettingsOf = fn(&mut Wish) -> &mut Settings;

@@ -86,8 +86,7 @@ fn of_settings(record: fn(&mut Recorded) -> &mut Settings) -> Vec<Damage> {
 fn whole(random: &mut Random, entry: Entry) -> Recorded {
     let settings = Settings { alpha: 0.5, max_pushes: 10, ..drawn::settings(random) };
     let links = [(0, 1, 1.0), (1, 2, 0.5), (2, 0, 2.0), (3, 3, 1.0), (0, 2, 0.25), (1, 0, 0.125)];
-    let wish =
-        Wish { source: 0, target: 2, many: vec![0, 3], precision: 0.25, settings, backward_settings: settings };
+    let wish = Wish { source: 0, target: 2, many: vec![0, 3], precision: 0.25, settings, backward_settings: settings };
     Recorded::on_links(entry, 4, &links, wish)
 }
 

@@ -156,7 +156,11 @@ pub fn other(solve: &Recorded, entry: Entry) -> Recorded {
 
 /// The source and the target of a solve that begins at `start`.
 fn ends(entry: Entry, start: u32, other: u32) -> (u32, u32) {
-    if starts_at_target(entry) { (other, start) } else { (start, other) }
+    if starts_at_target(entry) {
+        (other, start)
+    } else {
+        (start, other)
+    }
 }
 
 /// A sound solve along a chain that watches a node of it: the precision is what the node's estimate becomes at its push,
@@ -187,13 +191,8 @@ pub fn long(random: &mut Random, entry: Entry, adaptive: bool) -> Recorded {
     let near = random.one_of(&[0.9999, 0.9999, 1.0001]);
     let left = |pushes: u32| (0..pushes).fold(near, |left, _| left * (1.0 - alpha));
     let threshold = random.one_of(&[left(1_000), left(1_000), left(2_000), left(2_000) / 0.9]);
-    let settings = Settings {
-        alpha,
-        epsilon: 0.0,
-        max_pushes: 2_500,
-        queue_threshold: threshold,
-        adaptive_threshold: adaptive,
-    };
+    let settings =
+        Settings { alpha, epsilon: 0.0, max_pushes: 2_500, queue_threshold: threshold, adaptive_threshold: adaptive };
     let (start, other) = (random.below(u64::from(n)) as u32, random.below(u64::from(n)) as u32);
     let (source, target) = ends(entry, start, other);
     let precision = random.one_of(&[1e-3, 1.0]);
@@ -204,13 +203,8 @@ pub fn long(random: &mut Random, entry: Entry, adaptive: bool) -> Recorded {
 /// A threshold at the floor below which it does not adapt, and the next one up, with a residual that meets it at the
 /// thousandth push.
 pub fn floor(entry: Entry, threshold: f64) -> Recorded {
-    let settings = Settings {
-        alpha: 0.02725,
-        epsilon: 0.0,
-        max_pushes: 2_500,
-        queue_threshold: threshold,
-        adaptive_threshold: true,
-    };
+    let settings =
+        Settings { alpha: 0.02725, epsilon: 0.0, max_pushes: 2_500, queue_threshold: threshold, adaptive_threshold: true };
     let many = vec![0];
     let wish = Wish { source: 0, target: 0, many, precision: 2.0, settings, backward_settings: settings };
     Recorded::on_links(entry, 1, &[(0, 0, 1.0)], wish)

@@ -10,8 +10,18 @@ const SIZE: usize = 816;
 
 /// The workspace, in the order of its lengths: by name, and a forward call's by its other name.
 const WORKSPACE: [&[&str]; 12] = [
-    &["starts"], &["columns"], &["weights"], &["reverse_starts"], &["reverse_columns"], &["reverse_weights"],
-    &["in_degrees"], &["out_degrees", "degrees"], &["priorities"], &["nodes"], &["queued"], &["visited"],
+    &["starts"],
+    &["columns"],
+    &["weights"],
+    &["reverse_starts"],
+    &["reverse_columns"],
+    &["reverse_weights"],
+    &["in_degrees"],
+    &["out_degrees", "degrees"],
+    &["priorities"],
+    &["nodes"],
+    &["queued"],
+    &["visited"],
 ];
 
 /// The numbers of the calls that take vectors alone, which follow those of the solves.
