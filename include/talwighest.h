@@ -3,9 +3,9 @@
    To link: target/staticlib/libNAME.a of the crate that a call stands in; where none is named here, that is the crate of the
    call's own name. `rt staticlib NAME` writes it, and oracle/build writes them all. They are for x86-64.
 
-   Lists: a list is a pointer and its length. In what follows n is the number of nodes and m the number of listed links: the
-   length of `from`, or of `columns` where rows are given. The length that each list must have stands beside it, with what
-   it is for:
+   Lists: a list is a pointer and its length; where the length is 0, the pointer may be NULL. In what follows n is the number of
+   nodes and m the number of listed links: the length of `from`, or of `columns` where rows are given. The length that each list
+   must have stands beside it, with what it is for:
      read       the call reads it and leaves it as it was
      answer     a call that is done has written all of it
      workspace  a call that is done leaves it all zero
