@@ -3,7 +3,7 @@ use Prim.Native.Nat.{ℕ, zero, suc, _*_, compare, compare·zero-suc}
 use native.Mathlib.Nat.{mul-zero, zero-mul, zero-div, zero-mod}
 use mathlib.Core.Bool.{Bool, true, false, _&&_, false≢true}
 use mathlib.Core.Path.{_≡_, refl, ap, _∙_}
-use lib.IntN.{ℤ, pos, negsuc}
+use lib.IntN.{pos, negsuc}
 use lib.Ieee.{Float, nan, inf, fin, binary64, ofBits, le, lt, eq, add, sum, mul, unlike, up, down, round, units, odd, size, span, climb, nearest}
 use Rattle.numbers.specs.Numbers.{+0, one, _⊕_, _⊗_}
 
