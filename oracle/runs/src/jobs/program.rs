@@ -38,7 +38,7 @@ pub struct Printed {
 
 impl Program {
     /// The job program, which is for x86-64. On another processor the first word of `examples/emulator` runs it, with the C
-    /// library in it, as `oracle/build` links its object file there: a loader takes longer under an emulator than the program.
+    /// library in it, as `oracle/build` links its object file there: a loader takes as long under an emulator as the program.
     pub fn job() -> Self {
         let emulator = Command::new(root().join("examples/emulator")).output().expect("examples/emulator starts");
         assert!(emulator.status.success(), "examples/emulator fails");
