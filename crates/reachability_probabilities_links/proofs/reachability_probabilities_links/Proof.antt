@@ -5,7 +5,8 @@ use native.Mathlib.Omega.{arith}
 use denote.Ref.{now}
 use Rattle.watching.specs.Watching.{watchIn}
 use Rattle.calls.proofs.Lengths.{one-besides}
-use Rattle.backward_push.proofs.Reaching.{links-reach-sized, links-reach-refused, links-reach-done}
+use Rattle.calls.proofs.Vectors.{links-vectors}
+use Rattle.backward_push.proofs.Reaching.{reach-refused, reach-done, answering-vectors, links-beside, links-sized}
 use borrow.Author.Needs.{needs}
 use Rattle.reachability_probabilities_links.proofs.reachability_probabilities_links.Statement.{statement}
 use Rattle.reachability_probabilities_links.proofs.reachability_probabilities_links.Tie as tie
@@ -60,13 +61,13 @@ same-length-14 c = c .before .before .before .before .before .before .before .be
 
 returns : tie.Need-returns
 unfolding watchIn
-returns c = let a = c .before .before .before .before .before .before .before .before .before .before .before .before .before .before .before .before .before .before .before .before .before .before .before .before .before .before .before .before .before .before .before .before .before .before .before .before .before .before .before .before .before .before .before .before .before .before .before .before .before .before .before .before .before .before .before .before .before .before .before .before .before .before .before .before .args in links-reach-refused (a .settings) (a .target) (a .n) (now (a .solution)) (now (a .from)) (now (a .to)) (now (a .weight)) _ (c .before .before .before .before .before .before .before .before .before .before .before .before .before .before .before .before .before .before .before .before .before .before .before .before .before .before .before .before .before .before .checked-links .ensures ((_, _) ∷ []) (one-besides _ _)) (c .if1 .taken)
+returns c = let a = c .before .before .before .before .before .before .before .before .before .before .before .before .before .before .before .before .before .before .before .before .before .before .before .before .before .before .before .before .before .before .before .before .before .before .before .before .before .before .before .before .before .before .before .before .before .before .before .before .before .before .before .before .before .before .before .before .before .before .before .before .before .before .before .before .args in reach-refused (links-beside (a .n) (now (a .solution)) (now (a .from)) (now (a .to)) (now (a .weight)) _) (a .settings) (a .target) (c .before .before .before .before .before .before .before .before .before .before .before .before .before .before .before .before .before .before .before .before .before .before .before .before .before .before .before .before .before .before .checked-links .ensures ((_, _) ∷ []) (one-besides _ _)) (c .if1 .taken)
 
 extrapolate-requires : tie.Need-extrapolate-requires
 unfolding watchIn
 extrapolate-requires c κs =
     let a = c .before .before .before .before .before .before .before .before .before .before .before .before .before .before .before .before .before .before .before .before .before .before .before .before .before .before .before .before .before .before .before .before .before .before .before .before .before .before .before .before .before .before .before .before .before .before .before .before .before .before .before .before .before .before .before .before .before .before .before .before .before .before .before .before .before .before .before .args in
-    let l = links-reach-sized (a .settings) (a .target) (a .n) (now (a .solution)) (now (a .from)) (now (a .to)) (now (a .weight)) _ (c .before .before .before .before .before .before .before .before .before .before .before .before .before .before .before .before .before .before .before .before .before .before .before .before .before .before .before .before .before .before .before .before .before .checked-links .ensures ((_, _) ∷ []) (one-besides _ _)) (c .before .before .before .if1 .left) .long in
+    let l = links-sized (a .n) (now (a .solution)) (now (a .from)) (now (a .to)) (now (a .weight)) _ (c .before .before .before .before .before .before .before .before .before .before .before .before .before .before .before .before .before .before .before .before .before .before .before .before .before .before .before .before .before .before .before .before .before .checked-links .ensures ((_, _) ∷ []) (one-besides _ _)) (c .before .before .before .if1 .left) .long in
     let e = c .before .before .before .before .before .before .before .before .before .before .before .before .before .before .before .before .before .before .before .before .before .before .before .before .before .before .before .before .before .before .before .before .before .checked-links .kept .1 .1 .1 .1 .1 .1 .1 .1 .1 .1 .0 ∙ l .1 .1 .1 .1 .1 .0 in
     (c .before .before .before .before .before .before .before .before .before .before .before .before .before .before .before .before .before .before .before .before .before .before .before .before .before .before .before .before .before .before .before .before .before .checked-links .kept .1 .1 .1 .1 .1 .1 .1 .1 .1 .1 .1 .0 ∙ l .1 .1 .1 .1 .1 .1 .0 ∙ sym e, l .0 ∙ sym e)
 
@@ -120,8 +121,8 @@ unfolding watchIn
 returns-2 c =
     let a = c .before .before .before .before .before .before .before .before .before .before .before .before .before .before .before .before .before .before .before .before .before .before .before .before .before .before .before .before .before .before .before .before .before .before .before .before .before .before .before .before .before .before .before .before .before .before .before .before .before .before .before .before .before .before .before .before .before .before .before .before .before .before .before .before .before .before .before .before .before .before .args in
     let h = c .before .before .before .before .before .before .before .before .before .before .before .before .before .before .before .before .before .before .before .before .before .before .before .before .before .before .before .before .before .before .before .before .before .before .before .before .checked-links .ensures ((_, _) ∷ []) (one-besides _ _) in
-    let l = links-reach-sized (a .settings) (a .target) (a .n) (now (a .solution)) (now (a .from)) (now (a .to)) (now (a .weight)) _ h (c .before .before .before .before .before .before .if1 .left) .long in
-    links-reach-done (a .settings) (a .target) (a .n) (now (a .solution)) (now (a .from)) (now (a .to)) (now (a .weight)) _ h (c .before .before .before .before .before .before .if1 .left) (c .before .before .before .before .before .before .before .before .before .before .before .before .before .before .before .before .before .before .before .before .before .before .before .before .before .before .before .before .before .before .before .before .before .before .before .before .checked-links .kept .1 .1 .1 .1 .1 .1 .1 .1 .1 .1 .0 ∙ l .1 .1 .1 .1 .1 .0) (c .before .before .extrapolate .ensures)
+    let l = links-sized (a .n) (now (a .solution)) (now (a .from)) (now (a .to)) (now (a .weight)) _ h (c .before .before .before .before .before .before .if1 .left) .long in
+    reach-done (links-beside (a .n) (now (a .solution)) (now (a .from)) (now (a .to)) (now (a .weight)) _) (a .settings) (a .target) h (links-vectors (answering-vectors (a .n) (now (a .solution))) (a .n) (now (a .from)) (now (a .to)) (now (a .weight)) _) (c .before .before .before .before .before .before .if1 .left) (c .before .before .before .before .before .before .before .before .before .before .before .before .before .before .before .before .before .before .before .before .before .before .before .before .before .before .before .before .before .before .before .before .before .before .before .before .checked-links .kept .1 .1 .1 .1 .1 .1 .1 .1 .1 .1 .0 ∙ l .1 .1 .1 .1 .1 .0) (c .before .before .extrapolate .ensures)
 
 pub reachability-probabilities-links-spec : {M : Type 1} → statement M
 reachability-probabilities-links-spec =

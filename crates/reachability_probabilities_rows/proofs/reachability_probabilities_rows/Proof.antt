@@ -5,7 +5,8 @@ use native.Mathlib.Omega.{arith}
 use denote.Ref.{now}
 use Rattle.watching.specs.Watching.{watchIn}
 use Rattle.calls.proofs.Lengths.{one-besides}
-use Rattle.backward_push.proofs.Reaching.{rows-reach-sized, rows-reach-refused, rows-reach-done}
+use Rattle.calls.proofs.Vectors.{rows-vectors}
+use Rattle.backward_push.proofs.Reaching.{reach-refused, reach-done, answering-vectors, rows-beside, rows-sized}
 use borrow.Author.Needs.{needs}
 use Rattle.reachability_probabilities_rows.proofs.reachability_probabilities_rows.Statement.{statement}
 use Rattle.reachability_probabilities_rows.proofs.reachability_probabilities_rows.Tie as tie
@@ -51,13 +52,13 @@ same-length-11 c = c .before .before .before .before .before .before .before .be
 
 returns : tie.Need-returns
 unfolding watchIn
-returns c = let a = c .before .before .before .before .before .before .before .before .before .before .before .before .before .before .before .before .before .before .before .before .before .before .before .before .before .before .before .before .before .before .before .before .before .before .before .before .before .before .before .before .before .before .before .before .before .before .before .before .before .before .before .before .args in rows-reach-refused (a .settings) (a .target) (a .n) (now (a .solution)) (now (a .starts)) (now (a .columns)) (now (a .weights)) _ (c .before .before .before .before .before .before .before .before .before .before .before .before .before .before .before .before .before .before .before .before .before .before .before .before .checked-rows .ensures ((_, _) ∷ []) (one-besides _ _)) (c .if1 .taken)
+returns c = let a = c .before .before .before .before .before .before .before .before .before .before .before .before .before .before .before .before .before .before .before .before .before .before .before .before .before .before .before .before .before .before .before .before .before .before .before .before .before .before .before .before .before .before .before .before .before .before .before .before .before .before .before .before .args in reach-refused (rows-beside (a .n) (now (a .solution)) (now (a .starts)) (now (a .columns)) (now (a .weights)) _) (a .settings) (a .target) (c .before .before .before .before .before .before .before .before .before .before .before .before .before .before .before .before .before .before .before .before .before .before .before .before .checked-rows .ensures ((_, _) ∷ []) (one-besides _ _)) (c .if1 .taken)
 
 extrapolate-requires : tie.Need-extrapolate-requires
 unfolding watchIn
 extrapolate-requires c κs =
     let a = c .before .before .before .before .before .before .before .before .before .before .before .before .before .before .before .before .before .before .before .before .before .before .before .before .before .before .before .before .before .before .before .before .before .before .before .before .before .before .before .before .before .before .before .before .before .before .before .before .before .before .before .before .before .before .before .args in
-    let l = rows-reach-sized (a .settings) (a .target) (a .n) (now (a .solution)) (now (a .starts)) (now (a .columns)) (now (a .weights)) _ (c .before .before .before .before .before .before .before .before .before .before .before .before .before .before .before .before .before .before .before .before .before .before .before .before .before .before .before .checked-rows .ensures ((_, _) ∷ []) (one-besides _ _)) (c .before .before .before .if1 .left) .long in
+    let l = rows-sized (a .n) (now (a .solution)) (now (a .starts)) (now (a .columns)) (now (a .weights)) _ (c .before .before .before .before .before .before .before .before .before .before .before .before .before .before .before .before .before .before .before .before .before .before .before .before .before .before .before .checked-rows .ensures ((_, _) ∷ []) (one-besides _ _)) (c .before .before .before .if1 .left) .long in
     let e = c .before .before .before .before .before .before .before .before .before .before .before .before .before .before .before .before .before .before .before .before .before .before .before .before .before .before .before .checked-rows .kept .1 .1 .1 .1 .1 .1 .1 .1 .1 .1 .0 ∙ l .1 .1 .1 .1 .1 .0 in
     (c .before .before .before .before .before .before .before .before .before .before .before .before .before .before .before .before .before .before .before .before .before .before .before .before .before .before .before .checked-rows .kept .1 .1 .1 .1 .1 .1 .1 .1 .1 .1 .1 .0 ∙ l .1 .1 .1 .1 .1 .1 .0 ∙ sym e, l .0 ∙ sym e)
 
@@ -102,8 +103,8 @@ unfolding watchIn
 returns-2 c =
     let a = c .before .before .before .before .before .before .before .before .before .before .before .before .before .before .before .before .before .before .before .before .before .before .before .before .before .before .before .before .before .before .before .before .before .before .before .before .before .before .before .before .before .before .before .before .before .before .before .before .before .before .before .before .before .before .before .before .before .before .args in
     let h = c .before .before .before .before .before .before .before .before .before .before .before .before .before .before .before .before .before .before .before .before .before .before .before .before .before .before .before .before .before .before .checked-rows .ensures ((_, _) ∷ []) (one-besides _ _) in
-    let l = rows-reach-sized (a .settings) (a .target) (a .n) (now (a .solution)) (now (a .starts)) (now (a .columns)) (now (a .weights)) _ h (c .before .before .before .before .before .before .if1 .left) .long in
-    rows-reach-done (a .settings) (a .target) (a .n) (now (a .solution)) (now (a .starts)) (now (a .columns)) (now (a .weights)) _ h (c .before .before .before .before .before .before .if1 .left) (c .before .before .before .before .before .before .before .before .before .before .before .before .before .before .before .before .before .before .before .before .before .before .before .before .before .before .before .before .before .before .checked-rows .kept .1 .1 .1 .1 .1 .1 .1 .1 .1 .1 .0 ∙ l .1 .1 .1 .1 .1 .0) (c .before .before .extrapolate .ensures)
+    let l = rows-sized (a .n) (now (a .solution)) (now (a .starts)) (now (a .columns)) (now (a .weights)) _ h (c .before .before .before .before .before .before .if1 .left) .long in
+    reach-done (rows-beside (a .n) (now (a .solution)) (now (a .starts)) (now (a .columns)) (now (a .weights)) _) (a .settings) (a .target) h (rows-vectors (answering-vectors (a .n) (now (a .solution))) (a .n) (now (a .starts)) (now (a .columns)) (now (a .weights)) _) (c .before .before .before .before .before .before .if1 .left) (c .before .before .before .before .before .before .before .before .before .before .before .before .before .before .before .before .before .before .before .before .before .before .before .before .before .before .before .before .before .before .checked-rows .kept .1 .1 .1 .1 .1 .1 .1 .1 .1 .1 .0 ∙ l .1 .1 .1 .1 .1 .0) (c .before .before .extrapolate .ensures)
 
 pub reachability-probabilities-rows-spec : {M : Type 1} → statement M
 reachability-probabilities-rows-spec =
