@@ -47,7 +47,7 @@ module _ (root rest next : ℕ) (short : next < 4) (most : rest ≤ 2 * root) wh
           subst (λ (x : ℕ). x * x ≡ 4 * (r * r)) (sym e) (square-twice r)
 
 -- After i turns: the root has i digits and is that of the upper part of s * 4 ^ i, whose lower 54 digits are `below`.
-pub record Turned (s i below root rest : ℕ) : Type 0 where
+pub record BroughtDown (s i below root rest : ℕ) : Type 0 where
   pub turns : i ≤ 27
   pub digits : root < 2 ^ i
   pub tail : below < 2 ^ 54
@@ -55,16 +55,16 @@ pub record Turned (s i below root rest : ℕ) : Type 0 where
   pub part : (root * root + rest) * 2 ^ 54 + below ≡ s * 4 ^ i
 
 -- before the first turn
-pub start : (s : ℕ) → s < 2 ^ 54 → Turned s 0 s 0 0
+pub start : (s : ℕ) → s < 2 ^ 54 → BroughtDown s 0 s 0 0
 start s h = record { turns = omega arith; digits = omega arith; tail = h; most = omega arith; part = omega arith }
 
 -- before the last turn the root has at most 26 digits
-pub room : {s i below root rest : ℕ} → Turned s i below root rest → i < 27 → root < 2 ^ 26
+pub room : {s i below root rest : ℕ} → BroughtDown s i below root rest → i < 27 → root < 2 ^ 26
 room {i = i} h l = lt-of-lt-of-le (h .digits) (pow-mono {i = i} {j = 26} (le-of-suc-le-suc l))
 
 -- a turn
-pub turn : {s i below root rest root' rest' : ℕ} → Turned s i below root rest → i < 27 → WholeRoot (4 * (root * root + rest) + below / 2 ^ 52) root' rest' → root' ≤ 2 * root + 1
-    → Turned s (i + 1) (below % 2 ^ 52 * 4) root' rest'
+pub turn : {s i below root rest root' rest' : ℕ} → BroughtDown s i below root rest → i < 27 → WholeRoot (4 * (root * root + rest) + below / 2 ^ 52) root' rest' → root' ≤ 2 * root + 1
+    → BroughtDown s (i + 1) (below % 2 ^ 52 * 4) root' rest'
 turn {s} {i} h l w d = record {
   turns = omega arith;
   digits = omega (arith, next-two i);
@@ -74,8 +74,8 @@ turn {s} {i} h l w d = record {
 }
 
 -- after the last turn nothing is below
-pub last : {s i below root rest : ℕ} → Turned s i below root rest → 27 ≤ i → WholeRoot s root rest × (root < 2 ^ 27)
+pub last : {s i below root rest : ℕ} → BroughtDown s i below root rest → 27 ≤ i → WholeRoot s root rest × (root < 2 ^ 27)
 last {s} {i} {below} {root} {rest} h l =
     let e : i ≡ 27 = omega arith in
-    let z : Turned s 27 below root rest = subst (λ (n : ℕ). Turned s n below root rest) e h in
+    let z : BroughtDown s 27 below root rest = subst (λ (n : ℕ). BroughtDown s n below root rest) e h in
     (record { is = omega (arith, z .part); most = h .most }, z .digits)

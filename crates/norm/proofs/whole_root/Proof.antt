@@ -2,13 +2,13 @@
 use Prim.Native.Nat.{_-_}
 use native.Mathlib.Omega.{arith}
 use borrow.Author.Needs.{needs}
-use Rattle.norm.proofs.Digits.{Turned, start, room, turn, last}
+use Rattle.norm.proofs.Digits.{BroughtDown, start, room, turn, last}
 use Rattle.norm.proofs.whole_root.Statement.{statement}
 use Rattle.norm.proofs.whole_root.Tie as tie
 
 -- what holds at the head of the loop
 abbrev Inv-loop : tie.InvT-loop
-Inv-loop s part₀ below₀ i₀ part below i = Turned s i below (part .root) (part .rest)
+Inv-loop s part₀ below₀ i₀ part below i = BroughtDown s i below (part .root) (part .rest)
 
 -- what falls with each turn
 abbrev μ-loop : tie.MeasureT-loop
