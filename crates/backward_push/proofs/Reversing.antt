@@ -8,7 +8,7 @@ use lib.ListN.{length, replicate}
 use lib.Ieee.{Float}
 use Rattle.numbers.specs.Numbers.{+0}
 use Rattle.numbers.specs.Choice.{if_then_else_}
-use Rattle.refusals.specs.Calls.{Left, left}
+use Rattle.refusals.specs.Calls.{Outcome, outcomeOf}
 use Rattle.graph.specs.Rows.{Entry, rowsIn}
 use Rattle.graph.specs.Store.{chosen, Rowed, Buffers, RowBuffers, Compressed}
 use Rattle.graph.proofs.Back.{held-rowed, held-rows}
@@ -38,12 +38,12 @@ directed-backward z t c w = record {
 
 -- what a solve leaves, with the reverse rows and the out-degrees cleared
 pub back-left : (n m : ℕ) (s : State) {r : Counted} {b : SolveLent} {reverse-starts reverse-columns : List ℕ} {reverse-weights out-degrees : List Float}
-    → left r b ≡ left (countedIn s) (solveDone n (s .estimate) (s .residual)) → reverse-starts ≡ replicate (n + 1) 0 → reverse-columns ≡ replicate m 0
+    → outcomeOf r b ≡ outcomeOf (countedIn s) (solveDone n (s .estimate) (s .residual)) → reverse-starts ≡ replicate (n + 1) 0 → reverse-columns ≡ replicate m 0
     → reverse-weights ≡ replicate m +0 → out-degrees ≡ replicate n +0
-    → left r (backLent reverse-starts reverse-columns reverse-weights out-degrees b) ≡ left (countedIn s) (backDone n m (solveDone n (s .estimate) (s .residual)))
+    → outcomeOf r (backLent reverse-starts reverse-columns reverse-weights out-degrees b) ≡ outcomeOf (countedIn s) (backDone n m (solveDone n (s .estimate) (s .residual)))
 unfolding backDone
 back-left n m s {reverse-starts = rs} {reverse-columns = rc} {reverse-weights = rv} {out-degrees = o} d es ec ew eo =
-    ap (λ (x : Left Counted SolveLent). left (x .answer) (backLent rs rc rv o (x .lent))) d ∙ rw (es, ec, ew, eo)
+    ap (λ (x : Outcome Counted SolveLent). outcomeOf (x .answer) (backLent rs rc rv o (x .lent))) d ∙ rw (es, ec, ew, eo)
 
 -- where the two vectors stand in it
 module _ (n m : ℕ) (estimate residual : List Float) where

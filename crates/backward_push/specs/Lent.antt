@@ -41,13 +41,13 @@ reversing = record { lengths = backLengths; done = λ n m s. backDone n m (solve
 -- ---- reachability_probabilities
 
 -- what its solve ends in, and the answer out of that
-pub record Reach : Type 0 where
+pub record Reachability : Type 0 where
   pub solution : List Float
   pub state : State
 
 -- the same, by its parts
-abbrev pub reach : List Float → State → Reach
-reach x s = record { solution = x; state = s }
+abbrev pub reachabilityOf : List Float → State → Reachability
+reachabilityOf x s = record { solution = x; state = s }
 
 -- an answer besides
 pub record ReachLent : Type 0 where
@@ -59,7 +59,7 @@ abbrev pub reachLent : List Float → BackLent → ReachLent
 reachLent x b = record { solution = x; back = b }
 
 -- its lending
-abbrev pub reaching : Lending Reach ReachLent
+abbrev pub reaching : Lending Reachability ReachLent
 reaching =
     record {
       lengths = λ n m b. (length (b .solution), n) ∷ backLengths n m (b .back);

@@ -1,9 +1,9 @@
 // A backward solve of lent rows that passed every test, which leaves the workspace cleared.
 ghost use mathlib.Core.Path.{_≡_};
 ghost use lib.ListN.{length};
-ghost use Rattle.refusals.specs.Calls.{left};
+ghost use Rattle.refusals.specs.Calls.{outcomeOf};
 ghost use Rattle.graph.specs.Store.{RowBuffers};
-ghost use Rattle.rules.specs.Ways.{backward};
+ghost use Rattle.rules.specs.Ways.{pushBackward};
 ghost use Rattle.watching.specs.Watching.{watchIn};
 ghost use Rattle.calls.specs.Lent.{solveLent};
 ghost use Rattle.calls.specs.Outcomes.{givenRows};
@@ -38,11 +38,11 @@ pub fn solve_rows<'a>(
     requires { ⌜ RowBuffers n (now starts) (now columns) (now weights) (now «reverse_starts») (now «reverse_columns») (now «reverse_weights») (now nodes)
         × (length (now «out_degrees») ≡ n)
         × Fits n (now targets) (solveLent (now estimate) (now residual) (now «in_degrees») (now priorities) (now nodes) (now queued) (now visited)) ⌝ }
-    ensures { λ r. ⌜ Settles backward (givenRows reversing n (now (starts .entry)) (now (columns .entry)) (now (weights .entry))
+    ensures { λ r. ⌜ Settles pushBackward (givenRows reversing n (now (starts .entry)) (now (columns .entry)) (now (weights .entry))
         (backLent (now («reverse_starts» .entry)) (now («reverse_columns» .entry)) (now («reverse_weights» .entry)) (now («out_degrees» .entry))
         (solveLent (now (estimate .entry)) (now (residual .entry)) (now («in_degrees» .entry)) (now (priorities .entry)) (now (nodes .entry)) (now (queued .entry)) (now (visited .entry)))))
         settings (watchIn watch) (now (targets .entry))
-        (left r (backLent (now («reverse_starts» .exit)) (now («reverse_columns» .exit)) (now («reverse_weights» .exit)) (now («out_degrees» .exit))
+        (outcomeOf r (backLent (now («reverse_starts» .exit)) (now («reverse_columns» .exit)) (now («reverse_weights» .exit)) (now («out_degrees» .exit))
         (solveLent (now (estimate .exit)) (now (residual .exit)) (now («in_degrees» .exit)) (now (priorities .exit)) (now (nodes .exit)) (now (queued .exit)) (now (visited .exit))))) ⌝ }
 {
     reversed::reverse(

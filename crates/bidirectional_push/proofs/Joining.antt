@@ -11,14 +11,14 @@ use borrow.Author.Tests.{ltb-true}
 use Rattle.numbers.specs.Numbers.{+0}
 use Rattle.numbers.specs.Choice.{if_then_else_}
 use Rattle.numbers.proofs.Tests.{both as all}
-use Rattle.refusals.specs.Refusals.{_or_, settings}
-use Rattle.refusals.specs.Calls.{Left, left}
+use Rattle.refusals.specs.Refusals.{_or_, refuseSettings}
+use Rattle.refusals.specs.Calls.{Outcome, outcomeOf}
 use Rattle.refusals.specs.declared.Settings.{Settings}
 use Rattle.refusals.proofs.Laws.{refused, accepted}
 use Rattle.graph.specs.Rows.{Entry, linksOf, rowsOf, rowsIn, degree, transposed}
 use Rattle.graph.specs.Store.{Rowed, Compressed}
 use Rattle.graph.proofs.Back.{held-rowed, held-rows}
-use Rattle.rules.specs.Ways.{Way, forward, backward, wayOf, over, rowAt, degreeOf}
+use Rattle.rules.specs.Ways.{Way, pushForward, pushBackward, wayOf, over, rowAt, degreeOf}
 use Rattle.rules.specs.Rules.{State, unwatched, blank, inside, watchable, begun, solve, at}
 use Rattle.rules.specs.Answers.{Method, neither, backwardAlone, forwardAlone, both, method, scoreAt, answerBy}
 use Rattle.rules.proofs.Starts.{solve-nothing}
@@ -127,17 +127,17 @@ score-is both u alpha n source target b f w p q r s l = rw (w .forward-is, w .ba
 -- what both solves of rows leave, with the workspace cleared
 pub joined-left : (n source target : ℕ) (starts columns : List ℕ) (weights : List Float) (b₀ : BothLent) (sf sb : Settings) (adaptive : Bool) (u : Uses) {r : Float}
     {fe fr be br reverse-weights out-degrees in-degrees priorities other-priorities : List Float} {reverse-starts reverse-columns nodes queued visited other-nodes other-queued other-visited : List ℕ} → Follows u (methodFor adaptive n (rowsIn n starts columns weights) source target)
-    → Leaves n (u .forward) (solve (over forward n (rowsIn n starts columns weights)) sf unwatched n (source ∷ [])) fe fr other-priorities other-nodes other-queued other-visited
-    → Leaves n (u .backward) (solve (over backward n (rowsIn n starts columns weights)) sb unwatched n (target ∷ [])) be br priorities nodes queued visited
+    → Leaves n (u .forward) (solve (over pushForward n (rowsIn n starts columns weights)) sf unwatched n (source ∷ [])) fe fr other-priorities other-nodes other-queued other-visited
+    → Leaves n (u .backward) (solve (over pushBackward n (rowsIn n starts columns weights)) sb unwatched n (target ∷ [])) be br priorities nodes queued visited
     → r ≡ scoreBy u (sb .alpha) source target be br fe fr → length be ≡ n → reverse-starts ≡ replicate (n + 1) 0 → reverse-columns ≡ replicate (length columns) 0
     → reverse-weights ≡ replicate (length columns) +0 → out-degrees ≡ replicate n +0 → in-degrees ≡ replicate n +0
     → Joins adaptive (givenRows joining n starts columns weights b₀) source target sf sb
-    (left r (bothLent fe fr (backLent reverse-starts reverse-columns reverse-weights out-degrees (solveLent be br in-degrees priorities nodes queued visited))))
+    (outcomeOf r (bothLent fe fr (backLent reverse-starts reverse-columns reverse-weights out-degrees (solveLent be br in-degrees priorities nodes queued visited))))
 unfolding joined pairsBy givenRows ends backDone solveDone
 joined-left n source target starts columns weights b₀ sf sb adaptive u w x y e l rs rc rv o i =
     let m = methodFor adaptive n (rowsIn n starts columns weights) source target in
-    let f = solve (over forward n (rowsIn n starts columns weights)) sf unwatched n (source ∷ []) in
-    let b = solve (over backward n (rowsIn n starts columns weights)) sb unwatched n (target ∷ []) in
+    let f = solve (over pushForward n (rowsIn n starts columns weights)) sf unwatched n (source ∷ []) in
+    let b = solve (over pushBackward n (rowsIn n starts columns weights)) sb unwatched n (target ∷ []) in
     let fe = x .estimate-is ∙ ap (λ (used : Bool). whereUsed used n (f .estimate)) (w .forward-is) in
     let fr = x .residual-is ∙ ap (λ (used : Bool). whereUsed used n (f .residual)) (w .forward-is) in
     let be = y .estimate-is ∙ ap (λ (used : Bool). whereUsed used n (b .estimate)) (w .backward-is) in
@@ -153,26 +153,26 @@ joined-left n source target starts columns weights b₀ sf sb adaptive u w x y e
 pub links-joined : {j : ℕ} (n source target : ℕ) (adaptive : Bool) (from to : List ℕ) (weight : List Float) (l : LinksLent BothLent) (sf sb : Settings)
     {starts columns positions starts′ columns′ : List ℕ} {weights weights′ : List Float} {r : Float} (b : BothLent) {b′ : BothLent}
     → Compressed j n (rowsOf n (linksOf from to weight)) (length from) starts columns weights positions → length columns ≡ length from
-    → Joins adaptive (givenRows joining n starts columns weights b) source target sf sb (left r b′)
+    → Joins adaptive (givenRows joining n starts columns weights b) source target sf sb (outcomeOf r b′)
     → starts′ ≡ replicate (n + 1) 0 → columns′ ≡ replicate (length from) 0 → weights′ ≡ replicate (length from) +0
-    → Joins adaptive (givenLinks joining n from to weight l) source target sf sb (left r (linksLent starts′ columns′ weights′ b′))
+    → Joins adaptive (givenLinks joining n from to weight l) source target sf sb (outcomeOf r (linksLent starts′ columns′ weights′ b′))
 unfolding joined givenRows givenLinks ends
 links-joined n source target adaptive from to weight l sf sb b h e d s c w =
-    let leaves : List (List Entry) → Left Float BothLent = λ rows.
+    let leaves : List (List Entry) → Outcome Float BothLent = λ rows.
     let m = methodFor adaptive n rows source target in
-    let f = solve (over forward n rows) sf unwatched n (source ∷ []) in
-    let t = solve (over backward n rows) sb unwatched n (target ∷ []) in
-    left (answerBy m (sb .alpha) n source target t f) (joining .done n (length from) (pairsBy m n t f)) in
+    let f = solve (over pushForward n rows) sf unwatched n (source ∷ []) in
+    let t = solve (over pushBackward n rows) sb unwatched n (target ∷ []) in
+    outcomeOf (answerBy m (sb .alpha) n source target t f) (joining .done n (length from) (pairsBy m n t f)) in
     record { leaves = made-left leaves h (rw e at (d .leaves)) s c w }
 
 -- ---- refused or done
 
-module _ {B : Type 0} (adaptive : Bool) (g : Given Pairs B) (source target : ℕ) (sf sb : Settings) {r : ℕ} (e : r ≡ g .tests 0 or settings sf or settings sb) where
-  pub answer-refused : (r ≡ 0 → ⊥) → ChecksBoth adaptive g source target sf sb (left (scoredOf r +0) (g .before))
+module _ {B : Type 0} (adaptive : Bool) (g : Given Pairs B) (source target : ℕ) (sf sb : Settings) {r : ℕ} (e : r ≡ g .tests 0 or refuseSettings sf or refuseSettings sb) where
+  pub answer-refused : (r ≡ 0 → ⊥) → ChecksBoth adaptive g source target sf sb (outcomeOf (scoredOf r +0) (g .before))
   unfolding bySolves
   answer-refused h = record { leaves = refused (λ k. scoredOf k +0) (g .before) _ _ e h }
 
-  pub answer-done : r ≡ 0 → {x : Float} {b : B} → Joins adaptive g source target sf sb (left x b) → ChecksBoth adaptive g source target sf sb (left (scoredOf 0 x) b)
+  pub answer-done : r ≡ 0 → {x : Float} {b : B} → Joins adaptive g source target sf sb (outcomeOf x b) → ChecksBoth adaptive g source target sf sb (outcomeOf (scoredOf 0 x) b)
   unfolding bySolves
   answer-done h d =
-      record { leaves = accepted (λ k. scoredOf k +0) (g .before) _ _ e h (ap (λ (x : Left Float B). left (scoredOf 0 (x .answer)) (x .lent)) (d .leaves)) }
+      record { leaves = accepted (λ k. scoredOf k +0) (g .before) _ _ e h (ap (λ (x : Outcome Float B). outcomeOf (scoredOf 0 (x .answer)) (x .lent)) (d .leaves)) }

@@ -6,10 +6,10 @@ use lib.ListN.{replicate}
 use lib.Ieee.{Float}
 use Rattle.numbers.specs.Numbers.{+0}
 use Rattle.numbers.specs.Choice.{if_then_else_}
-use Rattle.refusals.specs.Refusals.{_or_, settings}
-use Rattle.refusals.specs.Calls.{Left, left, call}
+use Rattle.refusals.specs.Refusals.{_or_, refuseSettings}
+use Rattle.refusals.specs.Calls.{Outcome, outcomeOf, byRefusal}
 use Rattle.refusals.specs.declared.Settings.{Settings}
-use Rattle.rules.specs.Ways.{forward, backward}
+use Rattle.rules.specs.Ways.{pushForward, pushBackward}
 use Rattle.rules.specs.Rules.{State, unwatched}
 use Rattle.rules.specs.Answers.{Method, both, method, answerBy}
 use Rattle.calls.specs.declared.Scored.{Scored}
@@ -34,20 +34,20 @@ pairsBy m n b f =
 
 module _ {B : Type 0} (g : Given Pairs B) (source target : ℕ) (sf sb : Settings) where
   -- what a method leaves of the forward solve from the source and the backward solve from the target
-  unfoldable pub joined : Method → Left Float B
+  unfoldable pub joined : Method → Outcome Float B
   joined m =
-      let f = ends forward g sf unwatched (source ∷ []) in
-      let b = ends backward g sb unwatched (target ∷ []) in
-      left (answerBy m (sb .alpha) (g .nodes) source target b f) (g .after (pairsBy m (g .nodes) b f))
+      let f = ends pushForward g sf unwatched (source ∷ []) in
+      let b = ends pushBackward g sb unwatched (target ∷ []) in
+      outcomeOf (answerBy m (sb .alpha) (g .nodes) source target b f) (g .after (pairsBy m (g .nodes) b f))
 
   -- refused, where either settings record can give 6, or done by a method
-  unfoldable pub bySolves : Method → Left Scored B
-  bySolves m = call (g .tests 0 or settings sf or settings sb) (λ k. scoredOf k +0) (g .before) (left (scoredOf 0 (joined m .answer)) (joined m .lent))
+  unfoldable pub bySolves : Method → Outcome Scored B
+  bySolves m = byRefusal (g .tests 0 or refuseSettings sf or refuseSettings sb) (λ k. scoredOf k +0) (g .before) (outcomeOf (scoredOf 0 (joined m .answer)) (joined m .lent))
 
   -- solve_bidirectional
-  abbrev pub solveBidirectional : Left Scored B
+  abbrev pub solveBidirectional : Outcome Scored B
   solveBidirectional = bySolves both
 
   -- adaptive_solve
-  abbrev pub adaptiveSolve : Left Scored B
+  abbrev pub adaptiveSolve : Outcome Scored B
   adaptiveSolve = bySolves (method (g .nodes) (g .rows) source target)

@@ -1,2 +1,2 @@
-// The bidirectional solver below its public calls with rows; `bidirectional_links` has what is below those with links.
+// The bidirectional solver below its public calls with rows; `checked_bidirectional_links` has what is below those with links.
 pub mod rows;

@@ -2,7 +2,7 @@
 ghost use mathlib.Core.Path.{_≡_};
 ghost use mathlib.Core.List.{[]};
 ghost use lib.ListN.{length};
-ghost use Rattle.refusals.specs.Calls.{left};
+ghost use Rattle.refusals.specs.Calls.{outcomeOf};
 ghost use Rattle.graph.specs.Store.{RowBuffers};
 ghost use Rattle.calls.specs.Lent.{solveLent};
 ghost use Rattle.calls.specs.Outcomes.{givenRows};
@@ -48,7 +48,7 @@ pub fn solve_rows<'a>(
         (bothLent (now («forward_estimate» .entry)) (now («forward_residual» .entry)) (backLent (now («reverse_starts» .entry)) (now («reverse_columns» .entry)) (now («reverse_weights» .entry)) (now («out_degrees» .entry))
         (solveLent (now («backward_estimate» .entry)) (now («backward_residual» .entry)) (now («in_degrees» .entry)) (now (priorities .entry)) (now (nodes .entry)) (now (queued .entry)) (now (visited .entry))))))
         source target «forward_settings» «backward_settings»
-        (left r (bothLent (now («forward_estimate» .exit)) (now («forward_residual» .exit)) (backLent (now («reverse_starts» .exit)) (now («reverse_columns» .exit)) (now («reverse_weights» .exit)) (now («out_degrees» .exit))
+        (outcomeOf r (bothLent (now («forward_estimate» .exit)) (now («forward_residual» .exit)) (backLent (now («reverse_starts» .exit)) (now («reverse_columns» .exit)) (now («reverse_weights» .exit)) (now («out_degrees» .exit))
         (solveLent (now («backward_estimate» .exit)) (now («backward_residual» .exit)) (now («in_degrees» .exit)) (now (priorities .exit)) (now (nodes .exit)) (now (queued .exit)) (now (visited .exit)))))) ⌝ }
 {
     reversed::reverse(

@@ -7,7 +7,7 @@ use lib.ListN.{length, getD, replicate}
 use lib.Ieee.{Float, nan}
 use Rattle.numbers.specs.Numbers.{+0}
 use Rattle.numbers.specs.Choice.{if_then_else_}
-use Rattle.refusals.specs.Calls.{left}
+use Rattle.refusals.specs.Calls.{outcomeOf}
 use Rattle.refusals.specs.declared.Settings.{Settings}
 use Rattle.graph.specs.Rows.{Entry, rowsIn, degree, transposed}
 use Rattle.graph.specs.Store.{chosen, Rowed, degreesIn}
@@ -21,7 +21,7 @@ use Rattle.calls.specs.declared.Counted.{Counted}
 use Rattle.calls.specs.Lent.{solveLent, solveDone}
 use Rattle.calls.specs.Promises.{Fits, SolveSettled, countedIn}
 use Rattle.calls.proofs.Degrees.{degree-at}
-use Rattle.calls.proofs.Left.{settled-left}
+use Rattle.calls.proofs.Leaving.{settled-left}
 
 -- the buffers hold the rows of the direction, their degrees, and the out-degrees of the graph
 pub record Directed (n : ℕ) (backward : Bool) (rows : List (List Entry)) (starts columns columns′ : List ℕ) (weights weights′ degrees out-degrees : List Float) : Type 0 where
@@ -83,7 +83,7 @@ module _ {n : ℕ} {backward : Bool} {rows : List (List Entry)} {starts columns 
       r estimate residual priorities nodes queued visited) where
     -- what it leaves, with the degrees cleared
     pub directed-left : {cleared : List Float} → cleared ≡ replicate n +0 → let s = solve (over backward n rows) settings watch n sources in
-        left r (solveLent estimate residual cleared priorities nodes queued visited) ≡ left (countedIn s) (solveDone n (s .estimate) (s .residual))
+        outcomeOf r (solveLent estimate residual cleared priorities nodes queued visited) ≡ outcomeOf (countedIn s) (solveDone n (s .estimate) (s .residual))
     directed-left c =
         settled-left (rw degrees-long at d) c (over backward n rows)
         (stands-over n backward rows starts columns columns′ weights weights′ out-degrees (z .rowed) (z .rows-are) (z .out-degrees-are))

@@ -5,8 +5,8 @@ use mathlib.Core.List.{List, [], _∷_, _++_}
 use mathlib.Core.Path.{_≡_, refl, sym, ap, _∙_}
 use lib.Dec.{eqb}
 use lib.Ieee.{Float}
-use Rattle.refusals.specs.Refusals.{unlike}
-use Rattle.refusals.specs.Calls.{Left}
+use Rattle.refusals.specs.Refusals.{lengthsDiffer}
+use Rattle.refusals.specs.Calls.{Outcome}
 use Rattle.refusals.specs.declared.Settings.{Settings}
 use Rattle.refusals.proofs.Laws.{AsStated, Sized}
 use Rattle.rules.specs.Rules.{State, Watch}
@@ -18,29 +18,29 @@ use Rattle.calls.specs.Promises.{Settles}
 -- ---- tests in parts
 
 -- what failed before stands beside the others
-unlike-beside : (a b : Bool) (ps : List (ℕ × ℕ)) → unlike (a || b) ps ≡ (a || unlike b ps)
-unfolding unlike
-unlike-beside a b [] = refl
-unlike-beside a b (p ∷ ps) = ap (λ (x : Bool). unlike x ps) (or-assoc a b (not (eqb (p .0) (p .1)))) ∙ unlike-beside a (b || not (eqb (p .0) (p .1))) ps
+differ-beside : (a b : Bool) (ps : List (ℕ × ℕ)) → lengthsDiffer (a || b) ps ≡ (a || lengthsDiffer b ps)
+unfolding lengthsDiffer
+differ-beside a b [] = refl
+differ-beside a b (p ∷ ps) = ap (λ (x : Bool). lengthsDiffer x ps) (or-assoc a b (not (eqb (p .0) (p .1)))) ∙ differ-beside a (b || not (eqb (p .0) (p .1))) ps
 
 -- two parts, one after the other
-unlike-append : (b : Bool) (ps qs : List (ℕ × ℕ)) → unlike (unlike b ps) qs ≡ unlike b (ps ++ qs)
-unfolding unlike
-unlike-append b [] qs = refl
-unlike-append b (p ∷ ps) qs = unlike-append _ ps qs
+differ-append : (b : Bool) (ps qs : List (ℕ × ℕ)) → lengthsDiffer (lengthsDiffer b ps) qs ≡ lengthsDiffer b (ps ++ qs)
+unfolding lengthsDiffer
+differ-append b [] qs = refl
+differ-append b (p ∷ ps) qs = differ-append _ ps qs
 
 -- the second tested by itself
-unlike-more : (b : Bool) (ps : List (ℕ × ℕ)) → (b || unlike false ps) ≡ unlike b ps
-unlike-more b ps = sym (unlike-beside b false ps) ∙ ap (λ (x : Bool). unlike x ps) (or-false b)
+differ-more : (b : Bool) (ps : List (ℕ × ℕ)) → (b || lengthsDiffer false ps) ≡ lengthsDiffer b ps
+differ-more b ps = sym (differ-beside b false ps) ∙ ap (λ (x : Bool). lengthsDiffer x ps) (or-false b)
 
 -- lists, what is tested besides, and two parts of the buffers
-pub unlike-parts : (ls more ts bs : List (ℕ × ℕ)) {l o t u : Bool} → l ≡ unlike false ls → o ≡ unlike false more → t ≡ unlike (l || o) ts → u ≡ unlike t bs
-    → u ≡ unlike false (ls ++ (more ++ (ts ++ bs)))
-unlike-parts ls more ts bs l o t u =
-    u ∙ ap (λ (x : Bool). unlike x bs) (t ∙ ap (λ (x : Bool). unlike x ts) (rw (l, o) (unlike-more (unlike false ls) more)))
-    ∙ unlike-append (unlike (unlike false ls) more) ts bs
-    ∙ unlike-append (unlike false ls) more (ts ++ bs)
-    ∙ unlike-append false ls (more ++ (ts ++ bs))
+pub differ-parts : (ls more ts bs : List (ℕ × ℕ)) {l o t u : Bool} → l ≡ lengthsDiffer false ls → o ≡ lengthsDiffer false more → t ≡ lengthsDiffer (l || o) ts → u ≡ lengthsDiffer t bs
+    → u ≡ lengthsDiffer false (ls ++ (more ++ (ts ++ bs)))
+differ-parts ls more ts bs l o t u =
+    u ∙ ap (λ (x : Bool). lengthsDiffer x bs) (t ∙ ap (λ (x : Bool). lengthsDiffer x ts) (rw (l, o) (differ-more (lengthsDiffer false ls) more)))
+    ∙ differ-append (lengthsDiffer (lengthsDiffer false ls) more) ts bs
+    ∙ differ-append (lengthsDiffer false ls) more (ts ++ bs)
+    ∙ differ-append false ls (more ++ (ts ++ bs))
 
 -- ---- other lengths besides
 
@@ -49,24 +49,24 @@ pub failing : Bool → List (ℕ × ℕ)
 failing true = (0, 1) ∷ []
 failing false = []
 
-pub failing-unlike : (b : Bool) → b ≡ unlike false (failing b)
-unfolding failing unlike
-failing-unlike true = refl
-failing-unlike false = refl
+pub failing-differ : (b : Bool) → b ≡ lengthsDiffer false (failing b)
+unfolding failing lengthsDiffer
+failing-differ true = refl
+failing-differ false = refl
 
 -- nothing is tested besides
-pub none-besides : false ≡ unlike false []
-unfolding unlike
+pub none-besides : false ≡ lengthsDiffer false []
+unfolding lengthsDiffer
 none-besides = refl
 
 -- one length is
-pub one-besides : (k n : ℕ) → not (eqb k n) ≡ unlike false ((k, n) ∷ [])
-unfolding unlike
+pub one-besides : (k n : ℕ) → not (eqb k n) ≡ lengthsDiffer false ((k, n) ∷ [])
+unfolding lengthsDiffer
 one-besides k n = refl
 
 -- two are
-pub two-besides : (a b n : ℕ) → (not (eqb a n) || not (eqb b n)) ≡ unlike false ((a, n) ∷ (b, n) ∷ [])
-unfolding unlike
+pub two-besides : (a b n : ℕ) → (not (eqb a n) || not (eqb b n)) ≡ lengthsDiffer false ((a, n) ∷ (b, n) ∷ [])
+unfolding lengthsDiffer
 two-besides a b n = refl
 
 -- the lengths behind others are as stated
@@ -79,12 +79,12 @@ sized-behind ps qs z = record { nodes = z .nodes; links = z .links; listed = z .
 
 -- a solve is the same, whatever lengths are tested besides
 module _ {B : Type 0} (k : Lending State B) (more : List (ℕ × ℕ)) (backward : Bool) (n : ℕ) (s : Settings) (watch : Watch) (sources : List ℕ) where
-  pub rows-besides : (starts columns : List ℕ) (weights : List Float) (b : B) {x : Left Counted B} → Settles backward (givenRows k n starts columns weights b) s watch sources x
+  pub rows-besides : (starts columns : List ℕ) (weights : List Float) (b : B) {x : Outcome Counted B} → Settles backward (givenRows k n starts columns weights b) s watch sources x
       → Settles backward (givenRows (besides more k) n starts columns weights b) s watch sources x
   unfolding givenRows ends
   rows-besides starts columns weights b d = record { leaves = d .leaves }
 
-  pub links-besides : (from to : List ℕ) (weight : List Float) (b : LinksLent B) {x : Left Counted (LinksLent B)} → Settles backward (givenLinks k n from to weight b) s watch sources x
+  pub links-besides : (from to : List ℕ) (weight : List Float) (b : LinksLent B) {x : Outcome Counted (LinksLent B)} → Settles backward (givenLinks k n from to weight b) s watch sources x
       → Settles backward (givenLinks (besides more k) n from to weight b) s watch sources x
   unfolding givenLinks ends
   links-besides from to weight b d = record { leaves = d .leaves }

@@ -2,12 +2,12 @@
 pub mod Counting
 pub mod Degrees
 pub mod Vectors
-pub mod Left
-pub mod One
+pub mod Leaving
+pub mod OneOutcome
 pub mod Lengths
 pub mod Fits
 pub mod Asked
 pub mod Directed
 pub mod Links
-pub mod Unreached
+pub mod UnreachedInCalls
 pub mod Queries

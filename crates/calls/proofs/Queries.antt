@@ -9,7 +9,7 @@ use native.Mathlib.Omega.{arith}
 use lib.ListN.{length, getD, List·getD-eq-default}
 use lib.Ieee.{Float, nan}
 use Rattle.numbers.specs.Numbers.{+0}
-use Rattle.refusals.specs.Calls.{Left, call}
+use Rattle.refusals.specs.Calls.{Outcome, byRefusal}
 use Rattle.refusals.specs.declared.Settings.{Settings}
 use Rattle.refusals.proofs.Laws.{left-done}
 use Rattle.graph.specs.Rows.{Entry, linksOf}
@@ -22,7 +22,7 @@ use Rattle.rules.proofs.Lengths.{solve-spans}
 use Rattle.calls.specs.declared.Scored.{Scored}
 use Rattle.calls.specs.Lent.{Lending, LinksLent, scoredOf}
 use Rattle.calls.specs.Outcomes.{Given, givenLinks, ends, queried, queriesOne}
-use Rattle.calls.proofs.Unreached.{given-kept, unconnected-ends, alike-ends}
+use Rattle.calls.proofs.UnreachedInCalls.{given-kept, unconnected-ends, alike-ends}
 
 -- ---- one query, by its first number and the state that its solve ends in
 
@@ -30,11 +30,11 @@ module _ {B : Type 0} (g : Given State B) (s : State) (v : ℕ) where
   -- where it answers 0, it answers the score
   queried-score : (number : ℕ) → queried number g s v .answer .refusal ≡ 0 → queried number g s v .answer ≡ scoredOf 0 (scoreAt s v)
   unfolding queried
-  queried-score number done = ap (λ (y : Left Scored B). y .answer) (left-done _ _ _ (λ y. y .refusal) (λ k. refl) refl number refl done)
+  queried-score number done = ap (λ (y : Outcome Scored B). y .answer) (left-done _ _ _ (λ y. y .refusal) (λ k. refl) refl number refl done)
 
   -- a score of +0 is answered, refused or not
   zero-answered : scoreAt s v ≡ +0 → (number : ℕ) → queried number g s v .answer .score ≡ +0
-  unfolding queried call
+  unfolding queried byRefusal
   zero-answered e zero = e
   zero-answered e (suc k) = refl
 

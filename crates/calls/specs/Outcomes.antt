@@ -7,8 +7,8 @@ use lib.ListN.{length}
 use lib.Ieee.{Float}
 use Rattle.numbers.specs.Numbers.{+0}
 use Rattle.norm.specs.Norm.{Norm}
-use Rattle.refusals.specs.Refusals.{_or_, settings, precision, linkTests, rowTests}
-use Rattle.refusals.specs.Calls.{Left, left, call}
+use Rattle.refusals.specs.Refusals.{_or_, refuseSettings, refusePrecision, linkTests, rowTests}
+use Rattle.refusals.specs.Calls.{Outcome, outcomeOf, byRefusal}
 use Rattle.refusals.specs.declared.Settings.{Settings}
 use Rattle.graph.specs.Rows.{Entry, linksOf, rowsOf, rowsIn}
 use Rattle.rules.specs.Ways.{over}
@@ -64,38 +64,38 @@ ends backward g s watch sources = solve (over backward (g .nodes) (g .rows)) s w
 
 module _ {B : Type 0} (number : ℕ) (g : Given State B) (s : State) where
   -- a solve before its norm is taken
-  unfoldable pub unmeasured : Left Counted B
-  unmeasured = call number (λ k. countedOf k 0 0) (g .before) (left (countedOf 0 (s .pushes) (visitedCount s)) (g .after s))
+  unfoldable pub unmeasured : Outcome Counted B
+  unmeasured = byRefusal number (λ k. countedOf k 0 0) (g .before) (outcomeOf (countedOf 0 (s .pushes) (visitedCount s)) (g .after s))
 
   -- a solve with this norm of its residual
-  unfoldable pub solvedWith : Float → Left Solved B
-  solvedWith norm = call number (λ k. solvedOf k 0 0 +0) (g .before) (left (solvedOf 0 (s .pushes) (visitedCount s) norm) (g .after s))
+  unfoldable pub solvedWith : Float → Outcome Solved B
+  solvedWith norm = byRefusal number (λ k. solvedOf k 0 0 +0) (g .before) (outcomeOf (solvedOf 0 (s .pushes) (visitedCount s) norm) (g .after s))
 
   -- a solve
-  pub record Solves (x : Left Solved B) : Type 0 where
+  pub record Solves (x : Outcome Solved B) : Type 0 where
     pub norm : Float
     pub is-norm : number ≡ 0 → Norm (s .residual) norm
     pub leaves : x ≡ solvedWith norm
 
   -- a query of the score of v
-  unfoldable pub queried : ℕ → Left Scored B
-  queried v = call number (λ k. scoredOf k +0) (g .before) (left (scoredOf 0 (scoreAt s v)) (g .after s))
+  unfoldable pub queried : ℕ → Outcome Scored B
+  queried v = byRefusal number (λ k. scoredOf k +0) (g .before) (outcomeOf (scoredOf 0 (scoreAt s v)) (g .after s))
 
 -- ---- the calls that both directions have
 
 module _ {B : Type 0} (backward : Bool) (g : Given State B) where
   -- a solve from one source or target, which is a list of one
-  abbrev pub solvesOne : ℕ → Settings → Left Solved B → Type 0
-  solvesOne v s = Solves (g .tests 0 or settings s) g (ends backward g s unwatched (v ∷ []))
+  abbrev pub solvesOne : ℕ → Settings → Outcome Solved B → Type 0
+  solvesOne v s = Solves (g .tests 0 or refuseSettings s) g (ends backward g s unwatched (v ∷ []))
 
   -- a solve from many
-  abbrev pub solvesMany : List ℕ → Settings → Left Solved B → Type 0
-  solvesMany vs s = Solves (g .tests (length vs) or settings s) g (ends backward g s unwatched vs)
+  abbrev pub solvesMany : List ℕ → Settings → Outcome Solved B → Type 0
+  solvesMany vs s = Solves (g .tests (length vs) or refuseSettings s) g (ends backward g s unwatched vs)
 
   -- a solve from v, where w is watched
-  abbrev pub solvesWatching : ℕ → ℕ → Float → Settings → Left Solved B → Type 0
-  solvesWatching v w p s = Solves (g .tests 0 or settings s or precision p) g (ends backward g s (watched w p) (v ∷ []))
+  abbrev pub solvesWatching : ℕ → ℕ → Float → Settings → Outcome Solved B → Type 0
+  solvesWatching v w p s = Solves (g .tests 0 or refuseSettings s or refusePrecision p) g (ends backward g s (watched w p) (v ∷ []))
 
   -- a query of the score of w in a solve from v
-  abbrev pub queriesOne : ℕ → ℕ → Settings → Left Scored B
-  queriesOne v w s = queried (g .tests 0 or settings s) g (ends backward g s unwatched (v ∷ [])) w
+  abbrev pub queriesOne : ℕ → ℕ → Settings → Outcome Scored B
+  queriesOne v w s = queried (g .tests 0 or refuseSettings s) g (ends backward g s unwatched (v ∷ [])) w

@@ -7,8 +7,8 @@ use lib.ListN.{length, getD, replicate}
 use lib.Ieee.{Float}
 use Rattle.numbers.specs.Numbers.{+0}
 use Rattle.norm.specs.Norm.{Norm}
-use Rattle.refusals.specs.Refusals.{_or_, settings}
-use Rattle.refusals.specs.Calls.{Left, left}
+use Rattle.refusals.specs.Refusals.{_or_, refuseSettings}
+use Rattle.refusals.specs.Calls.{Outcome, outcomeOf}
 use Rattle.refusals.specs.declared.Settings.{Settings}
 use Rattle.rules.specs.Ways.{Way}
 use Rattle.rules.specs.Rules.{State, Watch}
@@ -54,9 +54,9 @@ pub record SolveSettled (meant : Way → Type 0) (f : Way → State) (n : ℕ) (
   pub visited-zero : visited ≡ replicate (words n) 0
 
 -- a solve left the counts of the state that it ends in, and the lent buffers as they are after it
-pub record Settles {B : Type 0} (backward : Bool) (g : Given State B) (s : Settings) (watch : Watch) (sources : List ℕ) (x : Left Counted B) : Type 0 where
-  pub leaves : x ≡ left (countedIn (ends backward g s watch sources)) (g .after (ends backward g s watch sources))
+pub record Settles {B : Type 0} (backward : Bool) (g : Given State B) (s : Settings) (watch : Watch) (sources : List ℕ) (x : Outcome Counted B) : Type 0 where
+  pub leaves : x ≡ outcomeOf (countedIn (ends backward g s watch sources)) (g .after (ends backward g s watch sources))
 
 -- a call was refused with its first number, `further` being that of the tests after those of the settings, or solved
-pub record Checks {B : Type 0} (backward : Bool) (g : Given State B) (s : Settings) (watch : Watch) (sources : List ℕ) (listed further : ℕ) (x : Left Counted B) : Type 0 where
-  pub leaves : x ≡ unmeasured (g .tests listed or settings s or further) g (ends backward g s watch sources)
+pub record Checks {B : Type 0} (backward : Bool) (g : Given State B) (s : Settings) (watch : Watch) (sources : List ℕ) (listed further : ℕ) (x : Outcome Counted B) : Type 0 where
+  pub leaves : x ≡ unmeasured (g .tests listed or refuseSettings s or further) g (ends backward g s watch sources)

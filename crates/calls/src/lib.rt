@@ -6,7 +6,7 @@ ghost use mathlib.Core.List.{[], _∷_};
 ghost use Prim.Native.Nat.{_+_};
 ghost use lib.ListN.{length, getD};
 ghost use Rattle.numbers.specs.Numbers.{+0};
-ghost use Rattle.refusals.specs.Refusals.{unlike};
+ghost use Rattle.refusals.specs.Refusals.{lengthsDiffer};
 ghost use Rattle.rules.specs.Rules as Rules;
 ghost use Rattle.rules.specs.Answers.{extrapolated};
 ghost use Rattle.watching.specs.Watching.{watchIn};
@@ -42,7 +42,7 @@ pub struct Scored {
 }
 
 // Whether a test failed before, or a buffer of a solve among n nodes has another length than stated.
-pub fn unlike_solve(
+pub fn solve_lengths_differ(
     before: bool,
     n: u32,
     estimate: usize,
@@ -53,7 +53,7 @@ pub fn unlike_solve(
     queued: usize,
     visited: usize,
 ) -> bool
-    ensures { λ r. ⌜ r ≡ unlike before ((estimate, n) ∷ (residual, n) ∷ (degrees, n) ∷ (priorities, n) ∷ (nodes, n) ∷ (queued, words n) ∷ (visited, words n) ∷ []) ⌝ }
+    ensures { λ r. ⌜ r ≡ lengthsDiffer before ((estimate, n) ∷ (residual, n) ∷ (degrees, n) ∷ (priorities, n) ∷ (nodes, n) ∷ (queued, words n) ∷ (visited, words n) ∷ []) ⌝ }
 {
     let k = n as usize;
     let w = (k + 63) / 64;
@@ -69,7 +69,7 @@ pub fn unlike_solve(
 
 // Whether a test failed before, or a buffer for reverse rows of m entries, or for out-degrees, has another length than
 // stated.
-pub fn unlike_reverse(
+pub fn reverse_lengths_differ(
     before: bool,
     n: u32,
     m: usize,
@@ -78,7 +78,7 @@ pub fn unlike_reverse(
     reverse_weights: usize,
     out_degrees: usize,
 ) -> bool
-    ensures { λ r. ⌜ r ≡ unlike before ((«reverse_starts», n + 1) ∷ («reverse_columns», m) ∷ («reverse_weights», m) ∷ («out_degrees», n) ∷ []) ⌝ }
+    ensures { λ r. ⌜ r ≡ lengthsDiffer before ((«reverse_starts», n + 1) ∷ («reverse_columns», m) ∷ («reverse_weights», m) ∷ («out_degrees», n) ∷ []) ⌝ }
 {
     let k = n as usize;
     before
@@ -89,7 +89,7 @@ pub fn unlike_reverse(
 }
 
 // Whether a list of a call with m links, or a buffer for their rows, has another length than stated.
-pub fn unlike_links(
+pub fn links_lengths_differ(
     n: u32,
     m: usize,
     to: usize,
@@ -98,14 +98,14 @@ pub fn unlike_links(
     columns: usize,
     weights: usize,
 ) -> bool
-    ensures { λ r. ⌜ r ≡ unlike false ((to, m) ∷ (weight, m) ∷ (starts, n + 1) ∷ (columns, m) ∷ (weights, m) ∷ []) ⌝ }
+    ensures { λ r. ⌜ r ≡ lengthsDiffer false ((to, m) ∷ (weight, m) ∷ (starts, n + 1) ∷ (columns, m) ∷ (weights, m) ∷ []) ⌝ }
 {
     (to != m) | (weight != m) | (starts != n as usize + 1) | (columns != m) | (weights != m)
 }
 
 // Whether a list of a call with rows of m entries has another length than stated.
-pub fn unlike_rows(n: u32, m: usize, starts: usize, weights: usize) -> bool
-    ensures { λ r. ⌜ r ≡ unlike false ((starts, n + 1) ∷ (weights, m) ∷ []) ⌝ }
+pub fn rows_lengths_differ(n: u32, m: usize, starts: usize, weights: usize) -> bool
+    ensures { λ r. ⌜ r ≡ lengthsDiffer false ((starts, n + 1) ∷ (weights, m) ∷ []) ⌝ }
 {
     (starts != n as usize + 1) | (weights != m)
 }

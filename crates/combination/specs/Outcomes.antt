@@ -4,8 +4,8 @@ use mathlib.Core.List.{List, [], _∷_}
 use lib.ListN.{length}
 use lib.Ieee.{Float}
 use Rattle.numbers.specs.Numbers.{+0}
-use Rattle.refusals.specs.Refusals.{_or_, sizes, alphas}
-use Rattle.refusals.specs.Calls.{left, call}
+use Rattle.refusals.specs.Refusals.{_or_, refuseSizes, refuseAlpha}
+use Rattle.refusals.specs.Calls.{outcomeOf, byRefusal}
 use Rattle.rules.specs.Answers.{combined}
 use Rattle.calls.specs.declared.Scored.{Scored}
 use Rattle.calls.specs.Lent.{scoredOf}
@@ -14,9 +14,9 @@ use Rattle.calls.specs.Lent.{scoredOf}
 unfoldable pub combinedRefusal : List Float → List Float → List Float → List Float → Float → ℕ
 combinedRefusal be br fe fr alpha =
     let n = length be in
-    sizes n 0 0 ((length br, n) ∷ (length fe, n) ∷ (length fr, n) ∷ []) or alphas alpha
+    refuseSizes n 0 0 ((length br, n) ∷ (length fe, n) ∷ (length fr, n) ∷ []) or refuseAlpha alpha
 
 -- its answer
 unfoldable pub combining : List Float → List Float → List Float → List Float → Float → Scored
 combining be br fe fr alpha =
-    call {B = Unit {0}} (combinedRefusal be br fe fr alpha) (λ k. scoredOf k +0) tt (left (scoredOf 0 (combined alpha be br fe fr (length be))) tt) .answer
+    byRefusal {B = Unit {0}} (combinedRefusal be br fe fr alpha) (λ k. scoredOf k +0) tt (outcomeOf (scoredOf 0 (combined alpha be br fe fr (length be))) tt) .answer

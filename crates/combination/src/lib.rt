@@ -51,10 +51,10 @@ pub extern "C" fn combine_with_forward(
     ensures { λ r. ⌜ r ≡ combining (now («backward_estimate» .entry)) (now («backward_residual» .entry)) (now («forward_estimate» .entry)) (now («forward_residual» .entry)) alpha ⌝ }
 {
     let n = backward_estimate.len();
-    let unlike = (backward_residual.len() != n)
+    let differ = (backward_residual.len() != n)
         | (forward_estimate.len() != n)
         | (forward_residual.len() != n);
-    let sizes = refusals::refuse_sizes(n, 0, 0, unlike);
+    let sizes = refusals::refuse_sizes(n, 0, 0, differ);
     let refusal = refusals::or(sizes, refusals::refuse_alpha(alpha));
     if refusal != 0 {
         return Scored {

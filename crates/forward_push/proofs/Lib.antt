@@ -1,3 +1,3 @@
 -- The theorems on the calls of the forward solver: each has one outcome, and demand 3 of what is left.
-pub mod One
-pub mod Unreached
+pub mod OneForwardOutcome
+pub mod UnreachedForward

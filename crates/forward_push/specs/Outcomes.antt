@@ -4,10 +4,10 @@ use Prim.Native.Nat.{ℕ}
 use mathlib.Core.List.{List, [], _∷_}
 use lib.ListN.{length}
 use lib.Ieee.{Float}
-use Rattle.refusals.specs.Refusals.{_or_, sizes, alphas}
-use Rattle.refusals.specs.Calls.{Left, left, call}
+use Rattle.refusals.specs.Refusals.{_or_, refuseSizes, refuseAlpha}
+use Rattle.refusals.specs.Calls.{Outcome, outcomeOf, byRefusal}
 use Rattle.refusals.specs.declared.Settings.{Settings}
-use Rattle.rules.specs.Ways.{forward}
+use Rattle.rules.specs.Ways.{pushForward}
 use Rattle.rules.specs.Rules.{State}
 use Rattle.rules.specs.Answers.{extrapolated}
 use Rattle.calls.specs.declared.Solved.{Solved}
@@ -16,20 +16,20 @@ use Rattle.calls.specs.Outcomes.{Given, solvesOne, solvesMany, solvesWatching, 
 
 module _ {B : Type 0} (g : Given State B) where
   -- solve_single_source
-  abbrev pub solveSingleSource : ℕ → Settings → Left Solved B → Type 0
-  solveSingleSource source s = solvesOne forward g source s
+  abbrev pub solveSingleSource : ℕ → Settings → Outcome Solved B → Type 0
+  solveSingleSource source s = solvesOne pushForward g source s
 
   -- solve_multi_source
-  abbrev pub solveMultiSource : List ℕ → Settings → Left Solved B → Type 0
-  solveMultiSource sources s = solvesMany forward g sources s
+  abbrev pub solveMultiSource : List ℕ → Settings → Outcome Solved B → Type 0
+  solveMultiSource sources s = solvesMany pushForward g sources s
 
   -- solve_with_target: the target is watched
-  abbrev pub solveWithTarget : ℕ → ℕ → Float → Settings → Left Solved B → Type 0
-  solveWithTarget source target p s = solvesWatching forward g source target p s
+  abbrev pub solveWithTarget : ℕ → ℕ → Float → Settings → Outcome Solved B → Type 0
+  solveWithTarget source target p s = solvesWatching pushForward g source target p s
 
   -- query_single_entry: the score of the target
-  abbrev pub querySingleEntry : ℕ → ℕ → Settings → Left Scored B
-  querySingleEntry source target s = queriesOne forward g source target s
+  abbrev pub querySingleEntry : ℕ → ℕ → Settings → Outcome Scored B
+  querySingleEntry source target s = queriesOne pushForward g source target s
 
 -- ---- extrapolated_solution
 
@@ -37,9 +37,9 @@ module _ {B : Type 0} (g : Given State B) where
 unfoldable pub extrapolatedRefusal : List Float → List Float → Float → List Float → ℕ
 extrapolatedRefusal estimate residual alpha b =
     let n = length estimate in
-    sizes n 0 0 ((length residual, n) ∷ (length b, n) ∷ []) or alphas alpha
+    refuseSizes n 0 0 ((length residual, n) ∷ (length b, n) ∷ []) or refuseAlpha alpha
 
 -- its outcome
-unfoldable pub extrapolating : List Float → List Float → Float → List Float → Left ℕ (List Float)
+unfoldable pub extrapolating : List Float → List Float → Float → List Float → Outcome ℕ (List Float)
 extrapolating estimate residual alpha b =
-    call (extrapolatedRefusal estimate residual alpha b) (λ k. k) b (left 0 (extrapolated alpha (length estimate) estimate residual))
+    byRefusal (extrapolatedRefusal estimate residual alpha b) (λ k. k) b (outcomeOf 0 (extrapolated alpha (length estimate) estimate residual))

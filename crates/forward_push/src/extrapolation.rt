@@ -1,6 +1,6 @@
 // The solution that the estimate and the residual of a solve, forward or backward, let expect: a public call.
 ghost use mathlib.Core.Path.{_≡_};
-ghost use Rattle.refusals.specs.Calls.{left};
+ghost use Rattle.refusals.specs.Calls.{outcomeOf};
 ghost use Rattle.forward_push.specs.Outcomes.{extrapolating};
 
 // Estimate + alpha × residual, refused by 1, 3 and 6.
@@ -11,11 +11,11 @@ pub extern "C" fn extrapolated_solution(
     alpha: f64,
     solution: &mut [f64],
 ) -> u32
-    ensures { λ r. ⌜ left r (now (solution .exit)) ≡ extrapolating (now (estimate .entry)) (now (residual .entry)) alpha (now (solution .entry)) ⌝ }
+    ensures { λ r. ⌜ outcomeOf r (now (solution .exit)) ≡ extrapolating (now (estimate .entry)) (now (residual .entry)) alpha (now (solution .entry)) ⌝ }
 {
     let n = estimate.len();
-    let unlike = (residual.len() != n) | (solution.len() != n);
-    let sizes = refusals::refuse_sizes(n, 0, 0, unlike);
+    let differ = (residual.len() != n) | (solution.len() != n);
+    let sizes = refusals::refuse_sizes(n, 0, 0, differ);
     let refusal = refusals::or(sizes, refusals::refuse_alpha(alpha));
     if refusal != 0 {
         return refusal;

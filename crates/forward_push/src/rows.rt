@@ -1,7 +1,7 @@
 // A forward solve of lent rows that passed every test, which leaves the workspace cleared.
-ghost use Rattle.refusals.specs.Calls.{left};
+ghost use Rattle.refusals.specs.Calls.{outcomeOf};
 ghost use Rattle.graph.specs.Store.{Rowed};
-ghost use Rattle.rules.specs.Ways.{forward};
+ghost use Rattle.rules.specs.Ways.{pushForward};
 ghost use Rattle.watching.specs.Watching.{watchIn};
 ghost use Rattle.calls.specs.Lent.{solveLent, solving};
 ghost use Rattle.calls.specs.Outcomes.{givenRows};
@@ -29,10 +29,10 @@ pub fn solve_rows<'a>(
 ) -> Counted
     requires { ⌜ Rowed n (now starts) (now columns) (now weights)
         × Fits n (now sources) (solveLent (now estimate) (now residual) (now degrees) (now priorities) (now nodes) (now queued) (now visited)) ⌝ }
-    ensures { λ r. ⌜ Settles forward (givenRows solving n (now (starts .entry)) (now (columns .entry)) (now (weights .entry))
+    ensures { λ r. ⌜ Settles pushForward (givenRows solving n (now (starts .entry)) (now (columns .entry)) (now (weights .entry))
         (solveLent (now (estimate .entry)) (now (residual .entry)) (now (degrees .entry)) (now (priorities .entry)) (now (nodes .entry)) (now (queued .entry)) (now (visited .entry))))
         settings (watchIn watch) (now (sources .entry))
-        (left r (solveLent (now (estimate .exit)) (now (residual .exit)) (now (degrees .exit)) (now (priorities .exit)) (now (nodes .exit)) (now (queued .exit)) (now (visited .exit)))) ⌝ }
+        (outcomeOf r (solveLent (now (estimate .exit)) (now (residual .exit)) (now (degrees .exit)) (now (priorities .exit)) (now (nodes .exit)) (now (queued .exit)) (now (visited .exit)))) ⌝ }
 {
     graph::sum_rows(starts, weights, degrees);
     let counts = calls::solve_settled(

@@ -5,7 +5,7 @@ use mathlib.Core.List.{List, [], _∷_, map}
 use lib.ListN.{length, replicate}
 use lib.Ieee.{Float}
 use Rattle.refusals.specs.Refusals.{linkTests, rowTests}
-use Rattle.refusals.specs.Calls.{Left, left, call}
+use Rattle.refusals.specs.Calls.{Outcome, outcomeOf, byRefusal}
 use Rattle.graph.specs.Rows.{Entry, linksOf, rowsOf, rowsIn, transposed, degree, flat, startsOf, columnsOf, weightsOf}
 use Rattle.graph_entries.specs.declared.Built.{Built}
 
@@ -53,10 +53,10 @@ edgesRefusal n from to weight b =
     linkTests n m 0 ((length to, m) ∷ (length weight, m) ∷ rowLengths n m b ((length (b .positions), n) ∷ [])) weight
 
 -- its outcome: how many links are kept, and the compressed form of their rows
-unfoldable pub fromEdges : ℕ → List ℕ → List ℕ → List Float → RowsLent → Left Built RowsLent
+unfoldable pub fromEdges : ℕ → List ℕ → List ℕ → List Float → RowsLent → Outcome Built RowsLent
 fromEdges n from to weight b =
     let rows = rowsOf n (linksOf from to weight) in
-    call (edgesRefusal n from to weight b) (λ k. built k 0) b (left (built 0 (length (flat rows))) (compressedIn n (length from) rows))
+    byRefusal (edgesRefusal n from to weight b) (λ k. built k 0) b (outcomeOf (built 0 (length (flat rows))) (compressedIn n (length from) rows))
 
 -- ---- transpose
 
@@ -67,9 +67,9 @@ transposeRefusal n starts columns weights b =
     rowTests n 0 ((length starts, n + 1) ∷ (length weights, m) ∷ rowLengths n m b ((length (b .positions), n) ∷ [])) starts columns weights
 
 -- its outcome: the compressed form of the transposed rows
-unfoldable pub transposing : ℕ → List ℕ → List ℕ → List Float → RowsLent → Left ℕ RowsLent
+unfoldable pub transposing : ℕ → List ℕ → List ℕ → List Float → RowsLent → Outcome ℕ RowsLent
 transposing n starts columns weights b =
-    call (transposeRefusal n starts columns weights b) (λ k. k) b (left 0 (compressedIn n (length columns) (transposed n (rowsIn n starts columns weights))))
+    byRefusal (transposeRefusal n starts columns weights b) (λ k. k) b (outcomeOf 0 (compressedIn n (length columns) (transposed n (rowsIn n starts columns weights))))
 
 -- ---- from_matrix
 
@@ -84,11 +84,11 @@ matrixRefusal n starts columns weights b =
     starts columns weights
 
 -- its outcome: the transposed rows, the degrees of the rows and those of the transposed rows
-unfoldable pub fromMatrix : ℕ → List ℕ → List ℕ → List Float → GraphLent → Left ℕ GraphLent
+unfoldable pub fromMatrix : ℕ → List ℕ → List ℕ → List Float → GraphLent → Outcome ℕ GraphLent
 fromMatrix n starts columns weights b =
     let rows = rowsIn n starts columns weights in
     let turned = transposed n rows in
-    call (matrixRefusal n starts columns weights b) (λ k. k) b (left 0 (graphLent (compressedIn n (length columns) turned) (map degree rows) (map degree turned)))
+    byRefusal (matrixRefusal n starts columns weights b) (λ k. k) b (outcomeOf 0 (graphLent (compressedIn n (length columns) turned) (map degree rows) (map degree turned)))
 
 -- ---- row_sums
 
@@ -98,6 +98,6 @@ sumsRefusal n starts columns weights b =
     rowTests n 0 ((length starts, n + 1) ∷ (length weights, length columns) ∷ (length b, n) ∷ []) starts columns weights
 
 -- its outcome: the degree of each row
-unfoldable pub rowSums : ℕ → List ℕ → List ℕ → List Float → List Float → Left ℕ (List Float)
+unfoldable pub rowSums : ℕ → List ℕ → List ℕ → List Float → List Float → Outcome ℕ (List Float)
 rowSums n starts columns weights b =
-    call (sumsRefusal n starts columns weights b) (λ k. k) b (left 0 (map degree (rowsIn n starts columns weights)))
+    byRefusal (sumsRefusal n starts columns weights b) (λ k. k) b (outcomeOf 0 (map degree (rowsIn n starts columns weights)))

@@ -1,7 +1,7 @@
 // The graph store's public calls. Each tests its own input, refuses it with the first number that
 // applies and leaves every buffer as it was, or does its work in linear time in the buffers lent.
 ghost use mathlib.Core.Path.{_≡_};
-ghost use Rattle.refusals.specs.Calls.{left};
+ghost use Rattle.refusals.specs.Calls.{outcomeOf};
 ghost use Rattle.graph_entries.specs.Outcomes.{rowsLent, graphLent, fromEdges, fromMatrix, transposing, rowSums};
 
 // What `from_edges` answers.
@@ -23,19 +23,19 @@ pub extern "C" fn from_edges(
     weights: &mut [f64],
     positions: &mut [u32],
 ) -> Built
-    ensures { λ r. ⌜ left r (rowsLent (now (starts .exit)) (now (columns .exit)) (now (weights .exit)) (now (positions .exit)))
+    ensures { λ r. ⌜ outcomeOf r (rowsLent (now (starts .exit)) (now (columns .exit)) (now (weights .exit)) (now (positions .exit)))
         ≡ fromEdges n (now (from .entry)) (now (to .entry)) (now (weight .entry))
         (rowsLent (now (starts .entry)) (now (columns .entry)) (now (weights .entry)) (now (positions .entry))) ⌝ }
 {
     let m = from.len();
     let k = n as usize;
-    let unlike = (to.len() != m)
+    let differ = (to.len() != m)
         | (weight.len() != m)
         | (starts.len() != k + 1)
         | (columns.len() != m)
         | (weights.len() != m)
         | (positions.len() != k);
-    let refusal = refusals::refuse_links(k, m, 0, unlike, weight);
+    let refusal = refusals::refuse_links(k, m, 0, differ, weight);
     if refusal != 0 {
         return Built { refusal, kept: 0 };
     }
@@ -57,7 +57,7 @@ pub extern "C" fn from_matrix(
     reverse_degrees: &mut [f64],
     positions: &mut [u32],
 ) -> u32
-    ensures { λ r. ⌜ left r (graphLent (rowsLent (now («reverse_starts» .exit)) (now («reverse_columns» .exit)) (now («reverse_weights» .exit)) (now (positions .exit)))
+    ensures { λ r. ⌜ outcomeOf r (graphLent (rowsLent (now («reverse_starts» .exit)) (now («reverse_columns» .exit)) (now («reverse_weights» .exit)) (now (positions .exit)))
         (now (degrees .exit)) (now («reverse_degrees» .exit)))
         ≡ fromMatrix n (now (starts .entry)) (now (columns .entry)) (now (weights .entry))
         (graphLent (rowsLent (now («reverse_starts» .entry)) (now («reverse_columns» .entry)) (now («reverse_weights» .entry)) (now (positions .entry)))
@@ -65,7 +65,7 @@ pub extern "C" fn from_matrix(
 {
     let m = columns.len();
     let k = n as usize;
-    let unlike = (starts.len() != k + 1)
+    let differ = (starts.len() != k + 1)
         | (weights.len() != m)
         | (reverse_starts.len() != k + 1)
         | (reverse_columns.len() != m)
@@ -73,7 +73,7 @@ pub extern "C" fn from_matrix(
         | (degrees.len() != k)
         | (reverse_degrees.len() != k)
         | (positions.len() != k);
-    let refusal = refusals::refuse_rows(n, 0, unlike, starts, columns, weights);
+    let refusal = refusals::refuse_rows(n, 0, differ, starts, columns, weights);
     if refusal != 0 {
         return refusal;
     }
@@ -104,19 +104,19 @@ pub extern "C" fn transpose(
     reverse_weights: &mut [f64],
     positions: &mut [u32],
 ) -> u32
-    ensures { λ r. ⌜ left r (rowsLent (now («reverse_starts» .exit)) (now («reverse_columns» .exit)) (now («reverse_weights» .exit)) (now (positions .exit)))
+    ensures { λ r. ⌜ outcomeOf r (rowsLent (now («reverse_starts» .exit)) (now («reverse_columns» .exit)) (now («reverse_weights» .exit)) (now (positions .exit)))
         ≡ transposing n (now (starts .entry)) (now (columns .entry)) (now (weights .entry))
         (rowsLent (now («reverse_starts» .entry)) (now («reverse_columns» .entry)) (now («reverse_weights» .entry)) (now (positions .entry))) ⌝ }
 {
     let m = columns.len();
     let k = n as usize;
-    let unlike = (starts.len() != k + 1)
+    let differ = (starts.len() != k + 1)
         | (weights.len() != m)
         | (reverse_starts.len() != k + 1)
         | (reverse_columns.len() != m)
         | (reverse_weights.len() != m)
         | (positions.len() != k);
-    let refusal = refusals::refuse_rows(n, 0, unlike, starts, columns, weights);
+    let refusal = refusals::refuse_rows(n, 0, differ, starts, columns, weights);
     if refusal != 0 {
         return refusal;
     }
@@ -142,11 +142,11 @@ pub extern "C" fn row_sums(
     weights: &[f64],
     degrees: &mut [f64],
 ) -> u32
-    ensures { λ r. ⌜ left r (now (degrees .exit)) ≡ rowSums n (now (starts .entry)) (now (columns .entry)) (now (weights .entry)) (now (degrees .entry)) ⌝ }
+    ensures { λ r. ⌜ outcomeOf r (now (degrees .exit)) ≡ rowSums n (now (starts .entry)) (now (columns .entry)) (now (weights .entry)) (now (degrees .entry)) ⌝ }
 {
     let k = n as usize;
-    let unlike = (starts.len() != k + 1) | (weights.len() != columns.len()) | (degrees.len() != k);
-    let refusal = refusals::refuse_rows(n, 0, unlike, starts, columns, weights);
+    let differ = (starts.len() != k + 1) | (weights.len() != columns.len()) | (degrees.len() != k);
+    let refusal = refusals::refuse_rows(n, 0, differ, starts, columns, weights);
     if refusal != 0 {
         return refusal;
     }

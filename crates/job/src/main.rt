@@ -7,8 +7,8 @@ const LONG: usize = 16_505;
 
 fn main() {
     let mut bytes = [0u8; LONG];
-    let mut text = [0u8; jobs::ROOM];
+    let mut text = [0u8; job_answer::ROOM];
     let read = io::read_full(STDIN_FILENO, &mut bytes);
-    let told = jobs::run(&bytes[..read], &mut text);
+    let told = job_answer::run(&bytes[..read], &mut text);
     io::write_all(STDOUT_FILENO, &text[..told]);
 }

@@ -2,6 +2,8 @@
 // node and every size. The recording is a list of records of 16 bytes, little-endian: what is done
 // (u16), a node (u16), the size afterwards (u32) and a number (f64); oracle/runs/src/bin/record makes
 // it.
+mod recording;
+
 use libc::STDIN_FILENO;
 use libc::STDOUT_FILENO;
 use queue::WorkQueue;

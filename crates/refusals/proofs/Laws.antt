@@ -13,8 +13,8 @@ use Rattle.numbers.proofs.Tests.{neither}
 use Rattle.numbers.specs.Tables.{any}
 use Rattle.numbers.specs.Numbers.{+0, one}
 use Rattle.refusals.specs.declared.Settings.{Settings}
-use Rattle.refusals.specs.Refusals.{_or_, _when_, within, falls, unlike, nodes, links, listed, lengths, sizes, rows, alphas, settings, linkTests, rowTests}
-use Rattle.refusals.specs.Calls.{Left, left, call}
+use Rattle.refusals.specs.Refusals.{_or_, _when_, within, falls, lengthsDiffer, refuseNodes, refuseLinks, refuseListed, refuseLengths, refuseSizes, refuseRows, refuseAlpha, refuseSettings, linkTests, rowTests}
+use Rattle.refusals.specs.Calls.{Outcome, outcomeOf, byRefusal}
 
 -- ---- the first number
 
@@ -49,17 +49,17 @@ abbrev pub AsStated : List (ℕ × ℕ) → Type 0
 AsStated [] = Unit
 AsStated (p ∷ ps) = (p .0 ≡ p .1) × AsStated ps
 
--- what is under `unlike` fails where it fails
-unlike-false : (b : Bool) (ps : List (ℕ × ℕ)) → unlike b ps ≡ false → b ≡ false
-unfolding unlike
-unlike-false b [] h = h
-unlike-false b (p ∷ ps) h = neither b _ (unlike-false _ ps h) .0
+-- what is under `lengthsDiffer` fails where it fails
+differ-false : (b : Bool) (ps : List (ℕ × ℕ)) → lengthsDiffer b ps ≡ false → b ≡ false
+unfolding lengthsDiffer
+differ-false b [] h = h
+differ-false b (p ∷ ps) h = neither b _ (differ-false _ ps h) .0
 
 -- all lengths are as stated
-pub as-stated : (b : Bool) (ps : List (ℕ × ℕ)) → unlike b ps ≡ false → AsStated ps
-unfolding unlike
+pub as-stated : (b : Bool) (ps : List (ℕ × ℕ)) → lengthsDiffer b ps ≡ false → AsStated ps
+unfolding lengthsDiffer
 as-stated b [] h = tt
-as-stated b (p ∷ ps) h = (eqb-true _ _ (not-false _ (neither b _ (unlike-false _ ps h) .1)), as-stated _ ps h)
+as-stated b (p ∷ ps) h = (eqb-true _ _ (not-false _ (neither b _ (differ-false _ ps h) .1)), as-stated _ ps h)
 
 -- ---- what a call has that is not refused
 
@@ -71,8 +71,8 @@ pub record Sized (n m s : ℕ) (ps : List (ℕ × ℕ)) : Type 0 where
   pub long : AsStated ps
 
 -- from the number
-pub sized : (n m s : ℕ) (ps : List (ℕ × ℕ)) → sizes n m s ps ≡ 0 → Sized n m s ps
-unfolding nodes links listed lengths
+pub sized : (n m s : ℕ) (ps : List (ℕ × ℕ)) → refuseSizes n m s ps ≡ 0 → Sized n m s ps
+unfolding refuseNodes refuseLinks refuseListed refuseLengths
 sized n m s ps h =
     let a = or-zero _ _ h in
     let b = or-zero _ _ (a .1) in
@@ -85,8 +85,8 @@ sized n m s ps h =
     }
 
 -- by its settings: alpha is a part
-pub alpha-within : (s : Settings) → settings s ≡ 0 → within +0 one (s .alpha) ≡ true
-unfolding settings alphas
+pub alpha-within : (s : Settings) → refuseSettings s ≡ 0 → within +0 one (s .alpha) ≡ true
+unfolding refuseSettings refuseAlpha
 alpha-within s h = not-false _ (when-zero 5 _ (or-zero _ _ h .0))
 
 -- no element is of the kind
@@ -112,8 +112,8 @@ pub record Fine (n : ℕ) (starts columns : List ℕ) : Type 0 where
   pub inside : (i : ℕ) → i < length columns → getD columns i 0 < n
 
 -- from the number
-pub fine : (n : ℕ) (starts columns : List ℕ) → rows n starts columns ≡ 0 → Fine n starts columns
-unfolding rows
+pub fine : (n : ℕ) (starts columns : List ℕ) → refuseRows n starts columns ≡ 0 → Fine n starts columns
+unfolding refuseRows
 fine n starts columns h =
     let a = neither _ _ (when-zero 3 _ h) in
     let b = neither _ _ (a .0) in
@@ -138,38 +138,38 @@ rows-passed n s ps starts columns ws e h =
 
 -- ---- the outcome
 
-module _ {A B : Type 0} (answer : ℕ → A) (lent : B) (done : Left A B) where
+module _ {A B : Type 0} (answer : ℕ → A) (lent : B) (done : Outcome A B) where
   -- r, the number, is not 0: the call is refused
-  pub refused : (k : ℕ) {r : ℕ} → r ≡ k → (r ≡ 0 → ⊥) → left (answer r) lent ≡ call k answer lent done
-  unfolding call
+  pub refused : (k : ℕ) {r : ℕ} → r ≡ k → (r ≡ 0 → ⊥) → outcomeOf (answer r) lent ≡ byRefusal k answer lent done
+  unfolding byRefusal
   refused zero e h = absurd (h e)
   refused (suc k) e h = rw e
 
   -- it is 0: the call leaves x, as it should
-  pub accepted : (k : ℕ) {r : ℕ} {x : Left A B} → r ≡ k → r ≡ 0 → x ≡ done → x ≡ call k answer lent done
-  unfolding call
+  pub accepted : (k : ℕ) {r : ℕ} {x : Outcome A B} → r ≡ k → r ≡ 0 → x ≡ done → x ≡ byRefusal k answer lent done
+  unfolding byRefusal
   accepted k e h g = rw (sym e ∙ h) g
 
   -- where an answer says its number, a refusal its own and a done call 0
   module _ (number : A → ℕ) (own : (k : ℕ) → number (answer k) ≡ k) (none-done : number (done .answer) ≡ 0) where
     -- a call that answers 0 has the number 0
-    pub number-zero : (k : ℕ) {x : Left A B} → x ≡ call k answer lent done → number (x .answer) ≡ 0 → k ≡ 0
-    unfolding call
+    pub number-zero : (k : ℕ) {x : Outcome A B} → x ≡ byRefusal k answer lent done → number (x .answer) ≡ 0 → k ≡ 0
+    unfolding byRefusal
     number-zero zero e h = refl
-    number-zero (suc k) e h = sym (own (suc k)) ∙ sym (ap (λ (y : Left A B). number (y .answer)) e) ∙ h
+    number-zero (suc k) e h = sym (own (suc k)) ∙ sym (ap (λ (y : Outcome A B). number (y .answer)) e) ∙ h
 
     -- and leaves what it should
-    pub left-done : (k : ℕ) {x : Left A B} → x ≡ call k answer lent done → number (x .answer) ≡ 0 → x ≡ done
-    unfolding call
-    left-done k e h = e ∙ ap (λ (j : ℕ). call j answer lent done) (number-zero k e h)
+    pub left-done : (k : ℕ) {x : Outcome A B} → x ≡ byRefusal k answer lent done → number (x .answer) ≡ 0 → x ≡ done
+    unfolding byRefusal
+    left-done k e h = e ∙ ap (λ (j : ℕ). byRefusal j answer lent done) (number-zero k e h)
 
 -- Two calls leave the same where one equation says what they leave.
 pub agree : {A : Type 0} {x y z : A} → x ≡ z → y ≡ z → x ≡ y
 agree p q = p ∙ sym q
 
 -- And so where the equation leaves a part open that a relation R pins down in a call that is done, as `Root` does a norm.
-pub agree-by : {A B N : Type 0} (answer : ℕ → A) (lent : B) (done : N → Left A B) (R : N → Type 0) → ((p q : N) → R p → R q → p ≡ q)
-    → (k : ℕ) (p q : N) {x y : Left A B} → (k ≡ 0 → R p) → (k ≡ 0 → R q) → x ≡ call k answer lent (done p) → y ≡ call k answer lent (done q) → x ≡ y
-unfolding call
+pub agree-by : {A B N : Type 0} (answer : ℕ → A) (lent : B) (done : N → Outcome A B) (R : N → Type 0) → ((p q : N) → R p → R q → p ≡ q)
+    → (k : ℕ) (p q : N) {x y : Outcome A B} → (k ≡ 0 → R p) → (k ≡ 0 → R q) → x ≡ byRefusal k answer lent (done p) → y ≡ byRefusal k answer lent (done q) → x ≡ y
+unfolding byRefusal
 agree-by answer lent done R one zero p q f g d e = d ∙ ap done (one p q (f refl) (g refl)) ∙ sym e
 agree-by answer lent done R one (suc k) p q f g d e = d ∙ sym e

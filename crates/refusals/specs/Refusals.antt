@@ -23,9 +23,9 @@ k when true = k
 k when false = 0
 
 -- whether b holds, or the two numbers of one of the pairs differ
-unfoldable pub unlike : Bool → List (ℕ × ℕ) → Bool
-unlike b [] = b
-unlike b (p ∷ ps) = unlike (b || not (eqb (p .0) (p .1))) ps
+unfoldable pub lengthsDiffer : Bool → List (ℕ × ℕ) → Bool
+lengthsDiffer b [] = b
+lengthsDiffer b (p ∷ ps) = lengthsDiffer (b || not (eqb (p .0) (p .1))) ps
 
 -- whether the numbers fall somewhere
 unfoldable pub falls : List ℕ → Bool
@@ -54,54 +54,54 @@ wrong w = not (within +0 heaviest w)
 -- ---- the tests
 
 -- 1: more than 65,536 nodes
-unfoldable pub nodes : ℕ → ℕ
-nodes n = 1 when ltb 65536 n
+unfoldable pub refuseNodes : ℕ → ℕ
+refuseNodes n = 1 when ltb 65536 n
 
 -- 2: more than 1,048,576 links
-unfoldable pub links : ℕ → ℕ
-links m = 2 when ltb 1048576 m
+unfoldable pub refuseLinks : ℕ → ℕ
+refuseLinks m = 2 when ltb 1048576 m
 
 -- 2: more than 65,536 sources or targets
-unfoldable pub listed : ℕ → ℕ
-listed s = 2 when ltb 65536 s
+unfoldable pub refuseListed : ℕ → ℕ
+refuseListed s = 2 when ltb 65536 s
 
 -- 3: a lent buffer has another length than stated; each length goes with the one that is stated
-unfoldable pub lengths : List (ℕ × ℕ) → ℕ
-lengths ps = 3 when unlike false ps
+unfoldable pub refuseLengths : List (ℕ × ℕ) → ℕ
+refuseLengths ps = 3 when lengthsDiffer false ps
 
 -- 4: starts do not begin at 0, fall somewhere, do not end at the link count, or a column is not below the node count
-unfoldable pub rows : ℕ → List ℕ → List ℕ → ℕ
-rows n starts columns =
+unfoldable pub refuseRows : ℕ → List ℕ → List ℕ → ℕ
+refuseRows n starts columns =
     4 when (not (eqb (getD starts 0 0) 0) || falls starts || not (eqb (getD starts n 0) (length columns)) || any (λ v. leb n v) columns)
 
 -- 5: a listed weight, kept or not, is NaN, infinite, below zero or above 1,048,576
-unfoldable pub weights : List Float → ℕ
-weights ws = 5 when any wrong ws
+unfoldable pub refuseWeights : List Float → ℕ
+refuseWeights ws = 5 when any wrong ws
 
 -- 6: alpha not in 0..1
-unfoldable pub alphas : Float → ℕ
-alphas a = 6 when not (within +0 one a)
+unfoldable pub refuseAlpha : Float → ℕ
+refuseAlpha a = 6 when not (within +0 one a)
 
 -- 6: the same of the settings; epsilon or queue threshold not finite or below zero; max_pushes above 1,000,000,000
-unfoldable pub settings : Settings → ℕ
-settings s =
-    alphas (s .alpha)
+unfoldable pub refuseSettings : Settings → ℕ
+refuseSettings s =
+    refuseAlpha (s .alpha)
     or 6 when (not (amount (s .epsilon)) || not (amount (s .«queue_threshold»)) || ltb 1000000000 (s .«max_pushes»))
 
 -- 7: a precision not finite or below zero
-unfoldable pub precision : Float → ℕ
-precision p = 7 when not (amount p)
+unfoldable pub refusePrecision : Float → ℕ
+refusePrecision p = 7 when not (amount p)
 
--- ---- the first number that applies, by the kind of call. A call with settings or a precision goes on: `.. or settings s or precision p`
+-- ---- the first number that applies, by the kind of call. A call with settings or a precision goes on: `.. or refuseSettings s or refusePrecision p`
 
 -- 1 to 3: n nodes, m links, s sources or targets, and lengths ps
-abbrev pub sizes : ℕ → ℕ → ℕ → List (ℕ × ℕ) → ℕ
-sizes n m s ps = nodes n or links m or listed s or lengths ps
+abbrev pub refuseSizes : ℕ → ℕ → ℕ → List (ℕ × ℕ) → ℕ
+refuseSizes n m s ps = refuseNodes n or refuseLinks m or refuseListed s or refuseLengths ps
 
 -- with m links in a list, of weights ws
 abbrev pub linkTests : ℕ → ℕ → ℕ → List (ℕ × ℕ) → List Float → ℕ
-linkTests n m s ps ws = sizes n m s ps or weights ws
+linkTests n m s ps ws = refuseSizes n m s ps or refuseWeights ws
 
 -- with rows
 abbrev pub rowTests : ℕ → ℕ → List (ℕ × ℕ) → List ℕ → List ℕ → List Float → ℕ
-rowTests n s ps starts columns ws = sizes n (length columns) s ps or rows n starts columns or weights ws
+rowTests n s ps starts columns ws = refuseSizes n (length columns) s ps or refuseRows n starts columns or refuseWeights ws

@@ -4,7 +4,7 @@ ghost use mathlib.Core.Path.{_≡_};
 ghost use lib.ListN.{length, getD};
 ghost use lib.Dec.{leb};
 ghost use Rattle.numbers.specs.Tables.{any};
-ghost use Rattle.refusals.specs.Refusals.{_or_, _when_, nodes, links, listed, rows, weights, alphas, settings, precision, amount, wrong, falls, within};
+ghost use Rattle.refusals.specs.Refusals.{_or_, _when_, refuseNodes, refuseLinks, refuseListed, refuseRows, refuseWeights, refuseAlpha, refuseSettings, refusePrecision, amount, wrong, falls, within};
 
 // The five settings of a solve.
 #[repr(C)]
@@ -100,7 +100,7 @@ fn at(a: &[u32], i: usize) -> u32
 
 // 4: the rows of n nodes.
 fn refuse_starts(n: u32, starts: &[u32], columns: &[u32]) -> u32
-    ensures { λ r. ⌜ r ≡ rows n (now (starts .entry)) (now (columns .entry)) ⌝ }
+    ensures { λ r. ⌜ r ≡ refuseRows n (now (starts .entry)) (now (columns .entry)) ⌝ }
 {
     when(
         4,
@@ -113,14 +113,14 @@ fn refuse_starts(n: u32, starts: &[u32], columns: &[u32]) -> u32
 
 // 6: alpha.
 pub fn refuse_alpha(a: f64) -> u32
-    ensures { λ r. ⌜ r ≡ alphas a ⌝ }
+    ensures { λ r. ⌜ r ≡ refuseAlpha a ⌝ }
 {
     when(6, !is_within(0.0, 1.0, a))
 }
 
 // 6: the settings of a solve.
 pub fn refuse_settings(s: Settings) -> u32
-    ensures { λ r. ⌜ r ≡ settings s ⌝ }
+    ensures { λ r. ⌜ r ≡ refuseSettings s ⌝ }
 {
     or(
         refuse_alpha(s.alpha),
@@ -133,14 +133,14 @@ pub fn refuse_settings(s: Settings) -> u32
 
 // 7: a precision.
 pub fn refuse_precision(p: f64) -> u32
-    ensures { λ r. ⌜ r ≡ precision p ⌝ }
+    ensures { λ r. ⌜ r ≡ refusePrecision p ⌝ }
 {
     when(7, !is_amount(p))
 }
 
 // 1, 2 or 3: n nodes, m links, s sources or targets, and whether a lent buffer has another length than stated.
-pub fn refuse_sizes(n: usize, m: usize, s: usize, unlike: bool) -> u32
-    ensures { λ r. ⌜ r ≡ (nodes n or links m or listed s or 3 when unlike) ⌝ }
+pub fn refuse_sizes(n: usize, m: usize, s: usize, differ: bool) -> u32
+    ensures { λ r. ⌜ r ≡ (refuseNodes n or refuseLinks m or refuseListed s or 3 when differ) ⌝ }
 {
     if 65536 < n {
         return 1;
@@ -151,14 +151,14 @@ pub fn refuse_sizes(n: usize, m: usize, s: usize, unlike: bool) -> u32
     if 65536 < s {
         return 2;
     }
-    if unlike { 3 } else { 0 }
+    if differ { 3 } else { 0 }
 }
 
 // The first number of a call with a list of links.
-pub fn refuse_links(n: usize, m: usize, s: usize, unlike: bool, ws: &[f64]) -> u32
-    ensures { λ r. ⌜ r ≡ ((nodes n or links m or listed s or 3 when unlike) or weights (now (ws .entry))) ⌝ }
+pub fn refuse_links(n: usize, m: usize, s: usize, differ: bool, ws: &[f64]) -> u32
+    ensures { λ r. ⌜ r ≡ ((refuseNodes n or refuseLinks m or refuseListed s or 3 when differ) or refuseWeights (now (ws .entry))) ⌝ }
 {
-    let r = refuse_sizes(n, m, s, unlike);
+    let r = refuse_sizes(n, m, s, differ);
     if r != 0 {
         return r;
     }
@@ -169,15 +169,15 @@ pub fn refuse_links(n: usize, m: usize, s: usize, unlike: bool, ws: &[f64]) -> u
 pub fn refuse_rows(
     n: u32,
     s: usize,
-    unlike: bool,
+    differ: bool,
     starts: &[u32],
     columns: &[u32],
     ws: &[f64],
 ) -> u32
-    ensures { λ r. ⌜ r ≡ ((nodes n or links (length (now (columns .entry))) or listed s or 3 when unlike)
-        or rows n (now (starts .entry)) (now (columns .entry)) or weights (now (ws .entry))) ⌝ }
+    ensures { λ r. ⌜ r ≡ ((refuseNodes n or refuseLinks (length (now (columns .entry))) or refuseListed s or 3 when differ)
+        or refuseRows n (now (starts .entry)) (now (columns .entry)) or refuseWeights (now (ws .entry))) ⌝ }
 {
-    let r = refuse_sizes(n as usize, columns.len(), s, unlike);
+    let r = refuse_sizes(n as usize, columns.len(), s, differ);
     if r != 0 {
         return r;
     }

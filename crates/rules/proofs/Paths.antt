@@ -9,7 +9,7 @@ use lib.Dec.{ltb}
 use Rattle.numbers.specs.Choice.{if_then_else_}
 use Rattle.numbers.proofs.Choice.{decided, either}
 use Rattle.graph.specs.Rows.{Entry}
-use Rattle.rules.specs.Ways.{forward, backward, wayOf, over, rowAt}
+use Rattle.rules.specs.Ways.{pushForward, pushBackward, wayOf, over, rowAt}
 use Rattle.rules.specs.Rules.{Watch, inside, begun}
 use Rattle.rules.specs.Reach.{Leads, stay, step, One, Reached, Reaches}
 use Rattle.rules.proofs.Keeps.{Closed}
@@ -49,7 +49,7 @@ module _ (n : ℕ) (watch : Watch) (list : List ℕ) (rows : List (List Entry)) 
   begun-reached = begun-one n watch list (λ u v. Leads (rowAt rows) u v) (λ v. stay)
 
   -- and goes on to others
-  pub reached-closed : Closed (Reached (rowAt rows) n list) (over forward n rows)
+  pub reached-closed : Closed (Reached (rowAt rows) n list) (over pushForward n rows)
   unfolding over wayOf if_then_else_
   reached-closed v r x m = record { node = r .node; listed = r .listed; below = r .below; has = step (r .has) m }
 
@@ -75,6 +75,6 @@ module _ (n : ℕ) (watch : Watch) (list : List ℕ) (rows : List (List Entry)) 
       }
 
   -- and goes on to others
-  pub reaches-closed : Closed (Reaches (rowAt rows) n list) (over backward n rows)
+  pub reaches-closed : Closed (Reaches (rowAt rows) n list) (over pushBackward n rows)
   unfolding over wayOf if_then_else_
   reaches-closed t r x m = reaches-before (x .node) t (transposed-mem n t rows x m) r

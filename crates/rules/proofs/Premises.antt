@@ -8,7 +8,7 @@ use lib.ListN.{length}
 use Rattle.numbers.specs.Numbers.{one}
 use Rattle.refusals.specs.declared.Settings.{Settings}
 use Rattle.graph.specs.Rows.{Link, Entry, link, rowOf}
-use Rattle.rules.specs.Ways.{forward, backward, overLinks}
+use Rattle.rules.specs.Ways.{pushForward, pushBackward, overLinks}
 use Rattle.rules.specs.Rules.{Watch, solve}
 use Rattle.rules.specs.Reach.{stay, Reaches, keptLinks, Alike}
 use Rattle.rules.proofs.KeptRows.{row-none}
@@ -45,7 +45,7 @@ low-same (suc (suc v)) h = absurd (omega arith)
 
 -- forward from 0
 forward-pair : (settings : Settings) (watch : Watch)
-    → Alike (solve (overLinks forward 3 fewer) settings watch 3 (0 ∷ [])) (solve (overLinks forward 3 more) settings watch 3 (0 ∷ []))
+    → Alike (solve (overLinks pushForward 3 fewer) settings watch 3 (0 ∷ [])) (solve (overLinks pushForward 3 more) settings watch 3 (0 ∷ []))
 forward-pair settings watch =
     forward-alike settings watch 3 (0 ∷ []) fewer more
     (λ v r. low-same v (leads-in _ (λ u. u < 2) low (r .node) v (rw (List·Memᴰ·eq-of-singleton (r .listed)) (omega arith)) (r .has)))
@@ -85,7 +85,7 @@ own links v e = rw e (record { node = 0; listed = List·Memᴰ·head refl; below
 
 -- backward from 0
 backward-pair : (settings : Settings) (watch : Watch)
-    → Alike (solve (overLinks backward 3 fewer) settings watch 3 (0 ∷ [])) (solve (overLinks backward 3 more) settings watch 3 (0 ∷ []))
+    → Alike (solve (overLinks pushBackward 3 fewer) settings watch 3 (0 ∷ [])) (solve (overLinks pushBackward 3 more) settings watch 3 (0 ∷ []))
 backward-pair settings watch =
     backward-alike settings watch 3 (0 ∷ []) fewer more
     (record {

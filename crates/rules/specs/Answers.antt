@@ -11,7 +11,7 @@ use Rattle.numbers.specs.Choice.{if_then_else_}
 use Rattle.numbers.specs.Tables.{tabulate}
 use Rattle.marks.specs.Marks.{howMany}
 use Rattle.graph.specs.Rows.{Entry}
-use Rattle.rules.specs.Ways.{forward, backward, over, degreeOf}
+use Rattle.rules.specs.Ways.{pushForward, pushBackward, over, degreeOf}
 use Rattle.rules.specs.Rules.{State, at}
 
 -- nodes_visited: how many nodes are marked
@@ -53,7 +53,7 @@ byDegrees outward inward =
 -- by the degrees that the rows of n nodes give; neither where a number is out of range
 unfoldable pub method : ℕ → List (List Entry) → ℕ → ℕ → Method
 method n rows source target =
-    if ltb source n && ltb target n then byDegrees (degreeOf (over forward n rows) source) (degreeOf (over backward n rows) target) else neither
+    if ltb source n && ltb target n then byDegrees (degreeOf (over pushForward n rows) source) (degreeOf (over pushBackward n rows) target) else neither
 
 -- what it answers, from the backward and the forward solve; alpha is the backward one
 unfoldable pub answerBy : Method → Float → ℕ → ℕ → ℕ → State → State → Float

@@ -17,7 +17,7 @@ use Rattle.norm.proofs.Examples as Roots
 use Rattle.marks.specs.Marks.{howMany}
 use Rattle.graph.specs.Rows.{Link, link, kept, gives, rowOf, rowsOf, sumFrom, degree, into, intoFrom, transposed}
 use Rattle.queue.specs.Waiting.{out, taken, answer, offered, better, bestFrom, next, usual, adapted}
-use Rattle.rules.specs.Ways.{forward, backward, effective, transition, shareOf, wayOf, over, overLinks, degreeOf}
+use Rattle.rules.specs.Ways.{pushForward, pushBackward, effective, transition, shareOf, wayOf, over, overLinks, degreeOf}
 use Rattle.rules.specs.Rules.{each, State, unwatched, watched, blank, queued, gain, absorb, counted, offer, pass, handOut, push, stops, due, skips, visit, turn, onward, run}
 use Rattle.rules.specs.Rules.{inside, watchable, begun, start, enough, solve}
 use Rattle.rules.specs.Pushed.{pushed, distinct}
@@ -82,7 +82,7 @@ solved direction n links settings sources = solve (overLinks direction n links) 
 
 -- the chain from 0, with a node that is watched
 abbrev watching : ℕ → Float → State
-watching v precision = solve (overLinks forward 2 (chain one)) (usually 10) (watched v precision) 2 (0 ∷ [])
+watching v precision = solve (overLinks pushForward 2 (chain one)) (usually 10) (watched v precision) 2 (0 ∷ [])
 
 -- the fork with weights 2 and 3, and alpha 0.15
 abbrev uneven : Bool → ℕ → State
@@ -90,55 +90,55 @@ uneven direction v = solved direction 3 (fork two (f64 0x4008_0000_0000_0000)) (
 
 -- P1: the chain from 0
 abbrev along : State
-along = solved forward 2 (chain one) (usually 10) (0 ∷ [])
+along = solved pushForward 2 (chain one) (usually 10) (0 ∷ [])
 
 -- P8: the chain backward from 1
 abbrev against : State
-against = solved backward 2 (chain one) (usually 10) (1 ∷ [])
+against = solved pushBackward 2 (chain one) (usually 10) (1 ∷ [])
 
 -- ---- what comes out
 
 -- what is looked at: both counts and both vectors
-pub record Outcome : Type 0 where
+pub record Ending : Type 0 where
   pub pushes : ℕ
   pub visited : ℕ
   pub estimate : List Float
   pub residual : List Float
 
--- an outcome, by its parts
-abbrev outcome : ℕ → ℕ → List Float → List Float → Outcome
-outcome pushes visited estimate residual = record { pushes = pushes; visited = visited; estimate = estimate; residual = residual }
+-- an ending, by its parts
+abbrev ending : ℕ → ℕ → List Float → List Float → Ending
+ending pushes visited estimate residual = record { pushes = pushes; visited = visited; estimate = estimate; residual = residual }
 
 -- that of a state
-abbrev shown : State → Outcome
-shown s = outcome (s .pushes) (visitedCount s) (s .estimate) (s .residual)
+abbrev shown : State → Ending
+shown s = ending (s .pushes) (visitedCount s) (s .estimate) (s .residual)
 
 -- the list
 pub record Worked : Type 0 where
   -- P1: three pushes, two nodes
-  pub chain-forward : shown along ≡ outcome 3 2 (half ∷ f64 0x3fd8_0000_0000_0000 ∷ []) (+0 ∷ eighth ∷ [])
+  pub chain-forward : shown along ≡ ending 3 2 (half ∷ f64 0x3fd8_0000_0000_0000 ∷ []) (+0 ∷ eighth ∷ [])
   pub chain-norm : Norm (along .residual) eighth
-  pub chain-pushed : pushed (overLinks forward 2 (chain one)) (usually 10) unwatched 32 (start (overLinks forward 2 (chain one)) (usually 10) unwatched 2 (0 ∷ [])) ≡ 0 ∷ 1 ∷ 1 ∷ []
+  pub chain-pushed : pushed (overLinks pushForward 2 (chain one)) (usually 10) unwatched 32 (start (overLinks pushForward 2 (chain one)) (usually 10) unwatched 2 (0 ∷ [])) ≡ 0 ∷ 1 ∷ 1 ∷ []
   pub chain-distinct : distinct (0 ∷ 1 ∷ 1 ∷ []) ≡ 0 ∷ 1 ∷ []
   -- P2: no nodes, or a source out of range
-  pub no-nodes : shown (solved forward 0 [] (usually 10) (0 ∷ [])) ≡ outcome 0 0 [] []
-  pub no-nodes-norm : Norm (solved forward 0 [] (usually 10) (0 ∷ []) .residual) +0
-  pub out-of-range : shown (solved forward 2 (chain one) (usually 10) (2 ∷ [])) ≡ outcome 0 0 (+0 ∷ +0 ∷ []) (+0 ∷ +0 ∷ [])
-  pub out-of-range-norm : Norm (solved forward 2 (chain one) (usually 10) (2 ∷ []) .residual) +0
+  pub no-nodes : shown (solved pushForward 0 [] (usually 10) (0 ∷ [])) ≡ ending 0 0 [] []
+  pub no-nodes-norm : Norm (solved pushForward 0 [] (usually 10) (0 ∷ []) .residual) +0
+  pub out-of-range : shown (solved pushForward 2 (chain one) (usually 10) (2 ∷ [])) ≡ ending 0 0 (+0 ∷ +0 ∷ []) (+0 ∷ +0 ∷ [])
+  pub out-of-range-norm : Norm (solved pushForward 2 (chain one) (usually 10) (2 ∷ []) .residual) +0
   -- P3: no pushes
-  pub no-pushes : shown (solved forward 2 (chain one) (usually 0) (0 ∷ [])) ≡ outcome 0 0 (+0 ∷ +0 ∷ []) (one ∷ +0 ∷ [])
-  pub no-pushes-norm : Norm (solved forward 2 (chain one) (usually 0) (0 ∷ []) .residual) one
+  pub no-pushes : shown (solved pushForward 2 (chain one) (usually 0) (0 ∷ [])) ≡ ending 0 0 (+0 ∷ +0 ∷ []) (one ∷ +0 ∷ [])
+  pub no-pushes-norm : Norm (solved pushForward 2 (chain one) (usually 0) (0 ∷ []) .residual) one
   -- P4: one push
-  pub one-push : shown (solved forward 2 (chain one) (usually 1) (0 ∷ [])) ≡ outcome 1 1 (half ∷ +0 ∷ []) (+0 ∷ half ∷ [])
+  pub one-push : shown (solved pushForward 2 (chain one) (usually 1) (0 ∷ [])) ≡ ending 1 1 (half ∷ +0 ∷ []) (+0 ∷ half ∷ [])
   -- P5: a threshold that nobody reaches
-  pub high-threshold : shown (solved forward 2 (chain one) (set-to half quarter two 10) (0 ∷ [])) ≡ outcome 0 0 (+0 ∷ +0 ∷ []) (one ∷ +0 ∷ [])
+  pub high-threshold : shown (solved pushForward 2 (chain one) (set-to half quarter two 10) (0 ∷ [])) ≡ ending 0 0 (+0 ∷ +0 ∷ []) (one ∷ +0 ∷ [])
   -- P6: node 1 is popped, and skipped
-  pub skipped : shown (solved forward 2 (chain one) (set-to half (f64 0x3fe8_0000_0000_0000) quarter 10) (0 ∷ [])) ≡ outcome 1 1 (half ∷ +0 ∷ []) (+0 ∷ half ∷ [])
-  pub popped : solved forward 2 (chain one) (set-to half (f64 0x3fe8_0000_0000_0000) quarter 10) (0 ∷ []) .slots ≡ out ∷ out ∷ []
+  pub skipped : shown (solved pushForward 2 (chain one) (set-to half (f64 0x3fe8_0000_0000_0000) quarter 10) (0 ∷ [])) ≡ ending 1 1 (half ∷ +0 ∷ []) (+0 ∷ half ∷ [])
+  pub popped : solved pushForward 2 (chain one) (set-to half (f64 0x3fe8_0000_0000_0000) quarter 10) (0 ∷ []) .slots ≡ out ∷ out ∷ []
   -- P7: of equal priorities, node 2 goes first
-  pub tie : shown (solved forward 3 (fork one one) (usually 2) (0 ∷ [])) ≡ outcome 2 2 (half ∷ +0 ∷ eighth ∷ []) (+0 ∷ quarter ∷ eighth ∷ [])
+  pub tie : shown (solved pushForward 3 (fork one one) (usually 2) (0 ∷ [])) ≡ ending 2 2 (half ∷ +0 ∷ eighth ∷ []) (+0 ∷ quarter ∷ eighth ∷ [])
   -- P8: backward
-  pub chain-backward : shown against ≡ outcome 3 2 (f64 0x3fd8_0000_0000_0000 ∷ half ∷ []) (eighth ∷ +0 ∷ [])
+  pub chain-backward : shown against ≡ ending 3 2 (f64 0x3fd8_0000_0000_0000 ∷ half ∷ []) (eighth ∷ +0 ∷ [])
   -- P9: P1 and P8 combined
   pub chain-together : together half against along 2 ≡ f64 0x3fdc_0000_0000_0000
   -- the extrapolated vector of P1, and a score out of range
@@ -146,31 +146,31 @@ pub record Worked : Type 0 where
   pub score-inside : scoreAt along 1 ≡ f64 0x3fd8_0000_0000_0000
   pub score-out-of-range : scoreAt along 2 ≡ +0
   -- P10: an out-degree below 1
-  pub light-backward : shown (solved backward 2 (chain half) (usually 1) (1 ∷ [])) ≡ outcome 1 1 (+0 ∷ half ∷ []) (quarter ∷ +0 ∷ [])
+  pub light-backward : shown (solved pushBackward 2 (chain half) (usually 1) (1 ∷ [])) ≡ ending 1 1 (+0 ∷ half ∷ []) (quarter ∷ +0 ∷ [])
   -- P11: the share of a source out of range is lost
-  pub share-lost : shown (solved forward 2 (chain one) (usually 0) (0 ∷ 5 ∷ [])) ≡ outcome 0 0 (+0 ∷ +0 ∷ []) (half ∷ +0 ∷ [])
-  pub share-lost-norm : Norm (solved forward 2 (chain one) (usually 0) (0 ∷ 5 ∷ []) .residual) half
+  pub share-lost : shown (solved pushForward 2 (chain one) (usually 0) (0 ∷ 5 ∷ [])) ≡ ending 0 0 (+0 ∷ +0 ∷ []) (half ∷ +0 ∷ [])
+  pub share-lost-norm : Norm (solved pushForward 2 (chain one) (usually 0) (0 ∷ 5 ∷ []) .residual) half
   -- P12: two square roots
   pub root-two : Root two (f64 0x3ff6_a09e_667f_3bcd)
   pub root-least : Root (f64 1) (fin false 1 (negsuc 536))
   -- the forward share: the product first, then the quotient (weight / degree first would end in c3)
-  pub product-first : shown (uneven forward 0) ≡ outcome 1 1 (f64 0x3fc3_3333_3333_3333 ∷ +0 ∷ +0 ∷ []) (+0 ∷ f64 0x3fd5_c28f_5c28_f5c2 ∷ f64 0x3fe0_51eb_851e_b852 ∷ [])
+  pub product-first : shown (uneven pushForward 0) ≡ ending 1 1 (f64 0x3fc3_3333_3333_3333 ∷ +0 ∷ +0 ∷ []) (+0 ∷ f64 0x3fd5_c28f_5c28_f5c2 ∷ f64 0x3fe0_51eb_851e_b852 ∷ [])
   -- the backward share: the quotient first, by the out-degree of the entry's node (the product first would end in c2)
-  pub quotient-first : shown (uneven backward 1) ≡ outcome 1 1 (+0 ∷ f64 0x3fc3_3333_3333_3333 ∷ +0 ∷ []) (f64 0x3fd5_c28f_5c28_f5c3 ∷ +0 ∷ +0 ∷ [])
+  pub quotient-first : shown (uneven pushBackward 1) ≡ ending 1 1 (+0 ∷ f64 0x3fc3_3333_3333_3333 ∷ +0 ∷ []) (f64 0x3fd5_c28f_5c28_f5c3 ∷ +0 ∷ +0 ∷ [])
   -- forward, a degree below 1 divides as it is
-  pub light-forward : shown (solved forward 2 (chain half) (usually 1) (0 ∷ [])) ≡ outcome 1 1 (half ∷ +0 ∷ []) (+0 ∷ half ∷ [])
+  pub light-forward : shown (solved pushForward 2 (chain half) (usually 1) (0 ∷ [])) ≡ ending 1 1 (half ∷ +0 ∷ []) (+0 ∷ half ∷ [])
   -- a link from a node to itself brings its mass back
-  pub own-link : shown (solved forward 1 (link 0 0 one ∷ []) (usually 1) (0 ∷ [])) ≡ outcome 1 1 (half ∷ []) (half ∷ [])
+  pub own-link : shown (solved pushForward 1 (link 0 0 one ∷ []) (usually 1) (0 ∷ [])) ≡ ending 1 1 (half ∷ []) (half ∷ [])
   -- the priority of a node that waits stays where a second link brings it more: 2 is pushed before 1, which has more by then
-  pub priority-stays : shown (solved forward 3 (link 0 1 five-quarters ∷ link 0 2 three-halves ∷ link 0 1 five-quarters ∷ []) (set-to half eighth eighth 2) (0 ∷ [])) ≡ outcome 2 2 (half ∷ +0 ∷ f64 0x3fb8_0000_0000_0000 ∷ []) (+0 ∷ f64 0x3fd4_0000_0000_0000 ∷ f64 0x3fb8_0000_0000_0000 ∷ [])
+  pub priority-stays : shown (solved pushForward 3 (link 0 1 five-quarters ∷ link 0 2 three-halves ∷ link 0 1 five-quarters ∷ []) (set-to half eighth eighth 2) (0 ∷ [])) ≡ ending 2 2 (half ∷ +0 ∷ f64 0x3fb8_0000_0000_0000 ∷ []) (+0 ∷ f64 0x3fd4_0000_0000_0000 ∷ f64 0x3fb8_0000_0000_0000 ∷ [])
   -- a skip between two pushes uses up no push: node 1 has the higher priority and is skipped, and node 2 is pushed after it
-  pub skipped-between : shown (solved forward 3 (link 0 1 (f64 0x3fe8_0000_0000_0000) ∷ link 0 2 quarter ∷ link 0 2 one ∷ []) (set-to half quarter +0 2) (0 ∷ [])) ≡ outcome 2 2 (half ∷ +0 ∷ f64 0x3fc4_0000_0000_0000 ∷ []) (+0 ∷ f64 0x3fc8_0000_0000_0000 ∷ f64 0x3fc4_0000_0000_0000 ∷ [])
+  pub skipped-between : shown (solved pushForward 3 (link 0 1 (f64 0x3fe8_0000_0000_0000) ∷ link 0 2 quarter ∷ link 0 2 one ∷ []) (set-to half quarter +0 2) (0 ∷ [])) ≡ ending 2 2 (half ∷ +0 ∷ f64 0x3fc4_0000_0000_0000 ∷ []) (+0 ∷ f64 0x3fc8_0000_0000_0000 ∷ f64 0x3fc4_0000_0000_0000 ∷ [])
   -- where the degree is 0 the rest goes back, links or not
-  pub weightless : shown (solved forward 2 (chain +0) (usually 1) (0 ∷ [])) ≡ outcome 1 1 (half ∷ +0 ∷ []) (half ∷ +0 ∷ [])
+  pub weightless : shown (solved pushForward 2 (chain +0) (usually 1) (0 ∷ [])) ≡ ending 1 1 (half ∷ +0 ∷ []) (half ∷ +0 ∷ [])
   -- the early stop: after one push the estimate of node 0 is above 1/4, and never above 1/2; a watched node out of range
-  pub stopped : shown (watching 0 quarter) ≡ outcome 1 1 (half ∷ +0 ∷ []) (+0 ∷ half ∷ [])
-  pub unstopped : shown (watching 0 half) ≡ outcome 3 2 (half ∷ f64 0x3fd8_0000_0000_0000 ∷ []) (+0 ∷ eighth ∷ [])
-  pub unwatchable : shown (watching 2 quarter) ≡ outcome 0 0 (+0 ∷ +0 ∷ []) (+0 ∷ +0 ∷ [])
+  pub stopped : shown (watching 0 quarter) ≡ ending 1 1 (half ∷ +0 ∷ []) (+0 ∷ half ∷ [])
+  pub unstopped : shown (watching 0 half) ≡ ending 3 2 (half ∷ f64 0x3fd8_0000_0000_0000 ∷ []) (+0 ∷ eighth ∷ [])
+  pub unwatchable : shown (watching 2 quarter) ≡ ending 0 0 (+0 ∷ +0 ∷ []) (+0 ∷ +0 ∷ [])
   -- the threshold adapts at the thousandth push, and not before: × 0.9, since nobody waits
   pub adapts : counted adaptive 0 (after 999) .threshold ≡ f64 0x3fcc_cccc_cccc_cccd
   pub adapts-not : counted adaptive 0 (after 998) .threshold ≡ quarter

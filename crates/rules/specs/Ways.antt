@@ -12,12 +12,12 @@ use Rattle.graph.specs.Rows.{Link, Entry, rowsOf, degree, transposed}
 -- ---- directions, degrees and shares
 
 -- a direction is told by whether it is backward, as the graph's store has it: this is forward
-abbrev pub forward : Bool
-forward = false
+abbrev pub pushForward : Bool
+pushForward = false
 
 -- and this is backward
-abbrev pub backward : Bool
-backward = true
+abbrev pub pushBackward : Bool
+pushBackward = true
 
 -- e: the degree where it is above 1, else 1
 unfoldable pub effective : Float → Float

@@ -7,7 +7,7 @@ ghost use Rattle.rules.specs.Rules as Rules;
 ghost use Rattle.watching.specs.Watching.{watchIn};
 ghost use Rattle.pushes.specs.Buffers.{Rows, Ready, Room};
 ghost use Rattle.pushes.specs.Meant.{Stands};
-ghost use Rattle.starting.specs.Promises.{Begun};
+ghost use Rattle.starting.specs.Promises.{LeavesState};
 ghost use Rattle.solver.specs.Promises.{Continues, Ran};
 use pushes::Progress;
 use refusals::Settings;
@@ -108,7 +108,7 @@ pub fn solve<'a>(
 ) -> Progress
     requires { ⌜ Rows (length (now degrees)) backward (now starts) (now columns) (now «reverse_columns») (now weights) (now «reverse_weights») (now degrees) (now «out_degrees»)
         × Room (length (now degrees)) (now estimate) (now residual) (now priorities) (now nodes) (now queued) (now visited) × (length (now sources) ≤ 65536) ⌝ }
-    ensures { λ r. ⌜ Begun (Stands (length (now (degrees .entry))) backward (now (starts .entry)) (now (columns .entry)) (now («reverse_columns» .entry))
+    ensures { λ r. ⌜ LeavesState (Stands (length (now (degrees .entry))) backward (now (starts .entry)) (now (columns .entry)) (now («reverse_columns» .entry))
         (now (weights .entry)) (now («reverse_weights» .entry)) (now («out_degrees» .entry)))
         (λ way. Rules.solve way settings (watchIn watch) (length (now (degrees .entry))) (now (sources .entry)))
         (length (now (degrees .entry))) (now (estimate .exit)) (now (residual .exit)) r (now (priorities .exit)) (now (nodes .exit)) (now (queued .exit)) (now (visited .exit)) ⌝ }

@@ -18,7 +18,7 @@ pub record Gained (f : State → State) (residual residual′ : List Float) : Ty
       → stateIn n estimate residual′ p priorities nodes visited ≡ f (stateIn n estimate residual p priorities nodes visited)
 
 -- the whole state, by the way and by nothing that the buffers held before
-pub record Begun (meant : Way → Type 0) (f : Way → State) (n : ℕ) (estimate residual : List Float) (p : Progress) (priorities : List Float) (nodes queued visited : List ℕ) : Type 0 where
+pub record LeavesState (meant : Way → Type 0) (f : Way → State) (n : ℕ) (estimate residual : List Float) (p : Progress) (priorities : List Float) (nodes queued visited : List ℕ) : Type 0 where
   pub lent : Lent n (p .queue) residual priorities nodes queued
   pub state : (way : Way) → meant way → stateIn n estimate residual p priorities nodes visited ≡ f way
   pub beyond : NoneBeyond n visited

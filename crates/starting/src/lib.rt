@@ -9,7 +9,7 @@ ghost use Rattle.watching.specs.Watching.{watchIn};
 ghost use Rattle.pushes.specs.Buffers.{Lent, Room};
 ghost use Rattle.pushes.specs.Meant.{Every, Weighing};
 ghost use Rattle.pushes.specs.Promises.{Moved};
-ghost use Rattle.starting.specs.Promises.{Gained, Begun};
+ghost use Rattle.starting.specs.Promises.{Gained, LeavesState};
 use pushes::Progress;
 use queue::WorkQueue;
 use refusals::Settings;
@@ -93,7 +93,7 @@ fn blank(
     visited: &mut [u64],
 ) -> Progress
     requires { ⌜ Room (length (now priorities)) (now estimate) (now residual) (now priorities) (now nodes) (now queued) (now visited) ⌝ }
-    ensures { λ r. ⌜ Begun Every (λ _. Rules.blank (length (now (priorities .entry))) threshold) (length (now (priorities .entry)))
+    ensures { λ r. ⌜ LeavesState Every (λ _. Rules.blank (length (now (priorities .entry))) threshold) (length (now (priorities .entry)))
         (now (estimate .exit)) (now (residual .exit)) r (now (priorities .entry)) (now (nodes .entry)) (now (queued .exit)) (now (visited .exit)) ⌝ }
 {
     numbers::clear_floats(estimate);
@@ -117,7 +117,7 @@ pub fn start(
     visited: &mut [u64],
 ) -> Progress
     requires { ⌜ Room (length (now degrees)) (now estimate) (now residual) (now priorities) (now nodes) (now queued) (now visited) × (length (now sources) ≤ 65536) ⌝ }
-    ensures { λ r. ⌜ Begun (Weighing (now (degrees .entry))) (λ way. Rules.start way settings (watchIn watch) (length (now (degrees .entry))) (now (sources .entry)))
+    ensures { λ r. ⌜ LeavesState (Weighing (now (degrees .entry))) (λ way. Rules.start way settings (watchIn watch) (length (now (degrees .entry))) (now (sources .entry)))
         (length (now (degrees .entry))) (now (estimate .exit)) (now (residual .exit)) r (now (priorities .exit)) (now (nodes .exit)) (now (queued .exit)) (now (visited .exit)) ⌝ }
 {
     let p = blank(

@@ -1,5 +1,5 @@
 //! Calls of the entries that take a graph: which there are, what each is given and lent, how it is made, where it is refused,
-//! and what the repaired Rust makes of it where it is not.
+//! and what the repaired Rust makes of it where it is not. `vectors` has the two that take vectors alone.
 pub mod approach;
 pub mod call;
 pub mod entry;
@@ -10,3 +10,4 @@ pub mod outcome;
 pub mod refusal;
 pub mod shape;
 pub mod theirs;
+pub mod vectors;

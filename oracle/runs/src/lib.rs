@@ -9,5 +9,6 @@ pub mod jobs;
 pub mod lent;
 pub mod patterns;
 pub mod random;
+pub mod recorded;
 pub mod settings;
 pub mod timing;

@@ -5,8 +5,8 @@ use mathlib.Core.List.{List}
 use denote.Ref.{now}
 use lib.ListN.{length}
 use lib.Ieee.{Float}
-use Rattle.refusals.specs.Refusals.{lengths, unlike}
-use Rattle.refusals.specs.Calls.{left}
+use Rattle.refusals.specs.Refusals.{refuseLengths, lengthsDiffer}
+use Rattle.refusals.specs.Calls.{outcomeOf}
 use Rattle.refusals.proofs.Laws.{refused, accepted, links-passed}
 use Rattle.graph.specs.Rows.{Entry, flat}
 use Rattle.graph.specs.Store.{Compressed}
@@ -19,16 +19,16 @@ use Rattle.graph_entries.proofs.from_edges.Tie as tie
 -- the number
 number : (c : tie.After-refuse-links) → let a = c .before .before .before .before .before .before .before .before .args in
     c .refuse-links .result ≡ edgesRefusal (a .n) (now (a .from)) (now (a .to)) (now (a .weight)) (rowsLent (now (a .starts)) (now (a .columns)) (now (a .weights)) (now (a .positions)))
-unfolding edgesRefusal lengths unlike
+unfolding edgesRefusal refuseLengths lengthsDiffer
 number c = c .refuse-links .ensures
 
 -- what `build_rows` ensures, as the call leaves it
 done : {r n m : ℕ} {rows : List (List Entry)} {s c : List ℕ} {w : List Float} {p : List ℕ} → Compressed r n rows m s c w p
-    → left (built 0 r) (rowsLent s c w p) ≡ left (built 0 (length (flat rows))) (compressedIn n m rows)
-done h = ap₂ (λ (k : ℕ) (b : RowsLent). left (built 0 k) b) (h .kept) (made h)
+    → outcomeOf (built 0 r) (rowsLent s c w p) ≡ outcomeOf (built 0 (length (flat rows))) (compressedIn n m rows)
+done h = ap₂ (λ (k : ℕ) (b : RowsLent). outcomeOf (built 0 k) b) (h .kept) (made h)
 
-add-unlike : tie.Need-add-unlike
-add-unlike c = search needs
+add-differ : tie.Need-add-differ
+add-differ c = search needs
 
 refuse-links-requires : tie.Need-refuse-links-requires
 refuse-links-requires c κs = search needs
@@ -63,7 +63,7 @@ pub from-edges-spec : {M : Type 1} → statement M
 from-edges-spec =
     tie.close
     (tie.spec
-    add-unlike
+    add-differ
     refuse-links-requires
     returns
     build-rows-requires

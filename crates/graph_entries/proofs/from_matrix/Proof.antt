@@ -5,8 +5,8 @@ use mathlib.Core.List.{List}
 use denote.Ref.{now}
 use lib.ListN.{length}
 use lib.Ieee.{Float}
-use Rattle.refusals.specs.Refusals.{lengths, unlike}
-use Rattle.refusals.specs.Calls.{left}
+use Rattle.refusals.specs.Refusals.{refuseLengths, lengthsDiffer}
+use Rattle.refusals.specs.Calls.{outcomeOf}
 use Rattle.refusals.proofs.Laws.{refused, accepted, rows-passed}
 use Rattle.graph.specs.Store.{RowBuffers}
 use Rattle.graph.proofs.Read.{degrees-are}
@@ -23,7 +23,7 @@ number : (c : tie.After-refuse-rows) → let a = c .before .before .before .befo
     c .refuse-rows .result
     ≡ matrixRefusal (a .n) (now (a .starts)) (now (a .columns)) (now (a .weights))
     (graphLent (rowsLent (now (a .reverse-starts)) (now (a .reverse-columns)) (now (a .reverse-weights)) (now (a .positions))) (now (a .degrees)) (now (a .reverse-degrees)))
-unfolding matrixRefusal lengths unlike
+unfolding matrixRefusal refuseLengths lengthsDiffer
 number c = c .refuse-rows .ensures
 
 -- what the tests leave: rows, buffers to transpose them, and as many degrees as nodes
@@ -33,7 +33,7 @@ record Passed (n : ℕ) (starts columns : List ℕ) (weights : List Float) (b : 
   pub reverse-long : length reverse-degrees ≡ n
 
 -- the three parts of what the call leaves
-whole : {r r′ : RowsLent} {d d′ e e′ : List Float} → r ≡ r′ → d ≡ d′ → e ≡ e′ → left {A = ℕ} 0 (graphLent r d e) ≡ left 0 (graphLent r′ d′ e′)
+whole : {r r′ : RowsLent} {d d′ e e′ : List Float} → r ≡ r′ → d ≡ d′ → e ≡ e′ → outcomeOf {A = ℕ} 0 (graphLent r d e) ≡ outcomeOf 0 (graphLent r′ d′ e′)
 whole p q s = cc
 
 passed : (c : tie.Else1) → let a = c .before .before .before .before .before .before .before .before .before .before .before .args in
@@ -57,11 +57,11 @@ passed c =
       reverse-long = l .1 .1 .1 .1 .1 .1 .0;
     }
 
-add-unlike : tie.Need-add-unlike
-add-unlike c = search needs
+add-differ : tie.Need-add-differ
+add-differ c = search needs
 
-add-unlike-2 : tie.Need-add-unlike-2
-add-unlike-2 c = search needs
+add-differ-2 : tie.Need-add-differ-2
+add-differ-2 c = search needs
 
 refuse-rows-requires : tie.Need-refuse-rows-requires
 refuse-rows-requires c κs = search needs
@@ -110,8 +110,8 @@ pub from-matrix-spec : {M : Type 1} → statement M
 from-matrix-spec =
     tie.close
     (tie.spec
-    add-unlike
-    add-unlike-2
+    add-differ
+    add-differ-2
     refuse-rows-requires
     returns
     sum-rows-requires

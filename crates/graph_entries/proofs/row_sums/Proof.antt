@@ -2,8 +2,8 @@
 use mathlib.Core.Path.{_≡_, ap, _∙_}
 use denote.Ref.{now}
 use lib.ListN.{length}
-use Rattle.refusals.specs.Refusals.{lengths, unlike}
-use Rattle.refusals.specs.Calls.{left}
+use Rattle.refusals.specs.Refusals.{refuseLengths, lengthsDiffer}
+use Rattle.refusals.specs.Calls.{outcomeOf}
 use Rattle.refusals.proofs.Laws.{refused, accepted, rows-passed}
 use Rattle.graph.specs.Store.{Rowed}
 use Rattle.graph.proofs.Read.{degrees-are}
@@ -16,7 +16,7 @@ use Rattle.graph_entries.proofs.row_sums.Tie as tie
 -- the number
 number : (c : tie.After-refuse-rows) → let a = c .before .before .before .before .before .args in
     c .refuse-rows .result ≡ sumsRefusal (a .n) (now (a .starts)) (now (a .columns)) (now (a .weights)) (now (a .degrees))
-unfolding sumsRefusal lengths unlike
+unfolding sumsRefusal refuseLengths lengthsDiffer
 number c = c .refuse-rows .ensures
 
 -- what the tests leave: rows, and as many degrees
@@ -26,8 +26,8 @@ passed c =
     let p = rows-passed _ _ _ _ _ _ (number (c .before)) (c .if1 .left) in
     (rowed-of (p .0 .long .0) (p .0 .long .1 .0) (p .1), p .0 .long .1 .1 .0)
 
-add-unlike : tie.Need-add-unlike
-add-unlike c = search needs
+add-differ : tie.Need-add-differ
+add-differ c = search needs
 
 refuse-rows-requires : tie.Need-refuse-rows-requires
 refuse-rows-requires c κs = search needs
@@ -46,9 +46,9 @@ returns-2 : tie.Need-returns-2
 unfolding rowSums
 returns-2 c =
     let p = passed (c .before .before .before .before) in
-    accepted _ _ _ _ (number (c .before .before .before .before .before)) (c .before .before .before .before .if1 .left) (ap (left 0) (c .before .before .sum-rows .ensures ∙ rw (p .1) (degrees-are (p .0))))
+    accepted _ _ _ _ (number (c .before .before .before .before .before)) (c .before .before .before .before .if1 .left) (ap (outcomeOf 0) (c .before .before .sum-rows .ensures ∙ rw (p .1) (degrees-are (p .0))))
 
 pub row-sums-spec : {M : Type 1} → statement M
 row-sums-spec =
     tie.close
-    (tie.spec add-unlike refuse-rows-requires returns sum-rows-requires same-length returns-2)
+    (tie.spec add-differ refuse-rows-requires returns sum-rows-requires same-length returns-2)

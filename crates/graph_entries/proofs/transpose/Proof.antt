@@ -1,8 +1,8 @@
 -- `graph_entries::transpose` meets its contract: refused by what the tests say, or done as `reverse_rows` says. Assumes nothing.
 use mathlib.Core.Path.{_≡_, ap}
 use denote.Ref.{now}
-use Rattle.refusals.specs.Refusals.{lengths, unlike}
-use Rattle.refusals.specs.Calls.{left}
+use Rattle.refusals.specs.Refusals.{refuseLengths, lengthsDiffer}
+use Rattle.refusals.specs.Calls.{outcomeOf}
 use Rattle.refusals.proofs.Laws.{refused, accepted, rows-passed}
 use Rattle.graph.specs.Store.{RowBuffers}
 use Rattle.graph_entries.specs.Outcomes.{rowsLent, transposeRefusal, transposing}
@@ -17,7 +17,7 @@ number : (c : tie.After-refuse-rows) → let a = c .before .before .before .befo
     c .refuse-rows .result
     ≡ transposeRefusal (a .n) (now (a .starts)) (now (a .columns)) (now (a .weights))
     (rowsLent (now (a .reverse-starts)) (now (a .reverse-columns)) (now (a .reverse-weights)) (now (a .positions)))
-unfolding transposeRefusal lengths unlike
+unfolding transposeRefusal refuseLengths lengthsDiffer
 number c = c .refuse-rows .ensures
 
 -- what the tests leave: rows, and buffers to transpose them
@@ -36,11 +36,11 @@ passed c =
       positions-long = l .1 .1 .1 .1 .1 .0;
     }
 
-add-unlike : tie.Need-add-unlike
-add-unlike c = search needs
+add-differ : tie.Need-add-differ
+add-differ c = search needs
 
-add-unlike-2 : tie.Need-add-unlike-2
-add-unlike-2 c = search needs
+add-differ-2 : tie.Need-add-differ-2
+add-differ-2 c = search needs
 
 refuse-rows-requires : tie.Need-refuse-rows-requires
 refuse-rows-requires c κs = search needs
@@ -66,14 +66,14 @@ same-length-4 c = search needs
 
 returns-2 : tie.Need-returns-2
 unfolding transposing
-returns-2 c = accepted _ _ _ _ (number (c .before .before .before .before .before .before .before .before .before .before .before .before .before .before)) (c .before .before .before .before .before .before .before .before .before .before .before .before .before .if1 .left) (ap (left 0) (made (c .before .before .before .before .before .before .before .before .reverse-rows .ensures)))
+returns-2 c = accepted _ _ _ _ (number (c .before .before .before .before .before .before .before .before .before .before .before .before .before .before)) (c .before .before .before .before .before .before .before .before .before .before .before .before .before .if1 .left) (ap (outcomeOf 0) (made (c .before .before .before .before .before .before .before .before .reverse-rows .ensures)))
 
 pub transpose-spec : {M : Type 1} → statement M
 transpose-spec =
     tie.close
     (tie.spec
-    add-unlike
-    add-unlike-2
+    add-differ
+    add-differ-2
     refuse-rows-requires
     returns
     reverse-rows-requires

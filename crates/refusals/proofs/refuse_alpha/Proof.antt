@@ -1,5 +1,5 @@
 -- `refusals::refuse_alpha` meets its contract. Assumes nothing.
-use Rattle.refusals.specs.Refusals.{alphas}
+use Rattle.refusals.specs.Refusals.{refuseAlpha}
 use borrow.Author.Needs.{needs}
 use Rattle.refusals.proofs.refuse_alpha.Statement.{statement}
 use Rattle.refusals.proofs.refuse_alpha.Tie as tie
@@ -11,7 +11,7 @@ when-requires : tie.Need-when-requires
 when-requires c κs = search needs
 
 returns : tie.Need-returns
-unfolding alphas
+unfolding refuseAlpha
 returns c = cc
 
 pub refuse-alpha-spec : {M : Type 1} → statement M

@@ -1,5 +1,5 @@
 -- `refusals::refuse_links` meets its contract. Assumes nothing.
-use Rattle.refusals.specs.Refusals.{weights}
+use Rattle.refusals.specs.Refusals.{refuseWeights}
 use Rattle.refusals.proofs.Laws.{or-first, or-second}
 use borrow.Author.Needs.{needs}
 use Rattle.refusals.proofs.refuse_links.Statement.{statement}
@@ -18,7 +18,7 @@ when-requires : tie.Need-when-requires
 when-requires c κs = search needs
 
 returns-2 : tie.Need-returns-2
-unfolding weights
+unfolding refuseWeights
 returns-2 c = or-second _ _ (c .before .before .before .refuse-sizes .ensures) (c .before .before .if1 .left) (cc)
 
 pub refuse-links-spec : {M : Type 1} → statement M

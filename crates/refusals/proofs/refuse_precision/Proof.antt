@@ -1,5 +1,5 @@
 -- `refusals::refuse_precision` meets its contract. Assumes nothing.
-use Rattle.refusals.specs.Refusals.{precision}
+use Rattle.refusals.specs.Refusals.{refusePrecision}
 use borrow.Author.Needs.{needs}
 use Rattle.refusals.proofs.refuse_precision.Statement.{statement}
 use Rattle.refusals.proofs.refuse_precision.Tie as tie
@@ -11,7 +11,7 @@ when-requires : tie.Need-when-requires
 when-requires c κs = search needs
 
 returns : tie.Need-returns
-unfolding precision
+unfolding refusePrecision
 returns c = cc
 
 pub refuse-precision-spec : {M : Type 1} → statement M

@@ -1,5 +1,5 @@
 -- `refusals::refuse_settings` meets its contract. Assumes nothing.
-use Rattle.refusals.specs.Refusals.{settings}
+use Rattle.refusals.specs.Refusals.{refuseSettings}
 use borrow.Author.Needs.{needs}
 use Rattle.refusals.proofs.refuse_settings.Statement.{statement}
 use Rattle.refusals.proofs.refuse_settings.Tie as tie
@@ -20,7 +20,7 @@ or-requires : tie.Need-or-requires
 or-requires c κs = search needs
 
 returns : tie.Need-returns
-unfolding settings
+unfolding refuseSettings
 returns c = cc
 
 pub refuse-settings-spec : {M : Type 1} → statement M

@@ -1,5 +1,5 @@
 -- `refusals::refuse_starts` meets its contract. Assumes nothing.
-use Rattle.refusals.specs.Refusals.{rows}
+use Rattle.refusals.specs.Refusals.{refuseRows}
 use borrow.Author.Needs.{needs}
 use Rattle.refusals.proofs.refuse_starts.Statement.{statement}
 use Rattle.refusals.proofs.refuse_starts.Tie as tie
@@ -23,7 +23,7 @@ when-requires : tie.Need-when-requires
 when-requires c κs = search needs
 
 returns : tie.Need-returns
-unfolding rows
+unfolding refuseRows
 returns c = cc
 
 pub refuse-starts-spec : {M : Type 1} → statement M

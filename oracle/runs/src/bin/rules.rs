@@ -30,18 +30,18 @@ use Rattle.norm.specs.Norm.{Norm, addSquares}
 use Rattle.marks.specs.Marks.{howMany}
 use Rattle.graph.specs.Rows.{Link, link, kept, gives, rowOf, rowsOf, sumFrom, degree, into, intoFrom, transposed}
 use Rattle.queue.specs.Waiting.{waits, taken, answer, offered, better, bestFrom, next, usual, adapted}
-use Rattle.rules.specs.Ways.{forward, backward, effective, transition, shareOf, wayOf, over, overLinks, degreeOf}
+use Rattle.rules.specs.Ways.{pushForward, pushBackward, effective, transition, shareOf, wayOf, over, overLinks, degreeOf}
 use Rattle.rules.specs.Rules.{each, State, unwatched, watched, blank, queued, gain, absorb, counted, offer, pass, handOut, push}
 use Rattle.rules.specs.Rules.{stops, due, skips, visit, turn, onward, run, inside, watchable, begun, start, enough, solve}
 use Rattle.rules.specs.Answers.{visitedCount, scoreAt, extrapolated, combined, byDegrees, method, answerBy}
-use Rattle.rules.specs.Cases.{Outcome}
+use Rattle.rules.specs.Cases.{Ending}
 use Rattle.rules.proofs.Ends.{run-add}
 
-abbrev outcome : ℕ → ℕ → List Float → List Float → Outcome
-outcome pushes visited estimate residual = record { pushes = pushes; visited = visited; estimate = estimate; residual = residual }
+abbrev ending : ℕ → ℕ → List Float → List Float → Ending
+ending pushes visited estimate residual = record { pushes = pushes; visited = visited; estimate = estimate; residual = residual }
 
-abbrev shown : State → Outcome
-shown s = outcome (s .pushes) (visitedCount s) (s .estimate) (s .residual)
+abbrev shown : State → Ending
+shown s = ending (s .pushes) (visitedCount s) (s .estimate) (s .residual)
 ";
 
 const UNFOLDING: &str = "unfolding if_then_else_ tabulate howMany kept gives rowOf rowsOf sumFrom degree into intoFrom transposed taken \
@@ -104,7 +104,7 @@ impl Written {
         self.fact(name, &format!("{rules} ≡ {rust}"), "refl");
     }
 
-    /// The outcome of one solve, and its norm.
+    /// The ending of one solve, and its norm.
     fn solve(&mut self, name: &str, direction: &str, watch: &str, from: &[usize], n: usize, r: &Run) {
         let graph = self.graph;
         let pushes = r.push_count + usize::from(std::mem::take(&mut self.planted));
@@ -112,7 +112,7 @@ impl Written {
             "shown (solve (overLinks {direction} {n} links-{graph}) {direction}-{graph} {watch} {n} ({}))",
             nodes(from)
         );
-        let rust = format!("outcome {pushes} {} ({}) ({})", r.nodes_visited, numbers(&r.estimate), numbers(&r.residual));
+        let rust = format!("ending {pushes} {} ({}) ({})", r.nodes_visited, numbers(&r.estimate), numbers(&r.residual));
         self.equation(name, &rules, &rust);
         let statement = format!("Norm ({}) ({})", numbers(&r.residual), bits(r.residual_norm));
         self.fact(&format!("{name}-norm"), &statement, &root(r.residual_norm));
@@ -167,7 +167,7 @@ fn write(w: &mut Written, g: &Given, random: &mut Random) {
     let (n, graph) = (g.n, w.graph);
     let links = listed(g.links.iter().map(|&(f, t, x)| format!("link {f} {t} ({})", bits(x))));
     writeln!(w.text, "\nabbrev links-{graph} : List Link\nlinks-{graph} = {links}").expect("a string");
-    for (name, c) in [("forward", &g.forward), ("backward", &g.backward)] {
+    for (name, c) in [("pushForward", &g.forward), ("pushBackward", &g.backward)] {
         writeln!(w.text, "\nabbrev {name}-{graph} : Settings\n{name}-{graph} = {}", record(c)).expect("a string");
     }
 
@@ -182,28 +182,28 @@ fn write(w: &mut Written, g: &Given, random: &mut Random) {
     let watch = |v: usize| format!("(watched {v} ({}))", bits(precision));
     let from_source = Run::from(forward.solve_single_source(source));
     let to_target = Run::from(backward.solve_single_target(target));
-    w.solve("single-source", "forward", "unwatched", &[source], n, &from_source);
-    w.solve("many-sources", "forward", "unwatched", &many, n, &forward.solve_multi_source(&many).into());
+    w.solve("single-source", "pushForward", "unwatched", &[source], n, &from_source);
+    w.solve("many-sources", "pushForward", "unwatched", &many, n, &forward.solve_multi_source(&many).into());
     let stopped = forward.solve_with_target(source, target, precision).into();
-    w.solve("with-target", "forward", &watch(target), &[source], n, &stopped);
-    w.solve("single-target", "backward", "unwatched", &[target], n, &to_target);
-    w.solve("many-targets", "backward", "unwatched", &many, n, &backward.solve_multi_target(&many).into());
+    w.solve("with-target", "pushForward", &watch(target), &[source], n, &stopped);
+    w.solve("single-target", "pushBackward", "unwatched", &[target], n, &to_target);
+    w.solve("many-targets", "pushBackward", "unwatched", &many, n, &backward.solve_multi_target(&many).into());
     let stopped = backward.solve_with_source(source, target, precision).into();
-    w.solve("with-source", "backward", &watch(source), &[target], n, &stopped);
+    w.solve("with-source", "pushBackward", &watch(source), &[target], n, &stopped);
 
     let rules = |direction: &str, v: usize| {
         format!("(solve (overLinks {direction} {n} links-{graph}) {direction}-{graph} unwatched {n} ({v} ∷ []))")
     };
-    let (f, b) = (rules("forward", source), rules("backward", target));
+    let (f, b) = (rules("pushForward", source), rules("pushBackward", target));
     w.equation("entry", &format!("scoreAt {f} {target}"), &bits(forward.query_single_entry(source, target)));
     let vectors = format!("({}) ({})", numbers(&to_target.estimate), numbers(&to_target.residual));
     let extrapolated = numbers(&backward.reachability_probabilities(target));
-    w.equation("extrapolated", &format!("extrapolated (backward-{graph} .alpha) {n} {vectors}"), &extrapolated);
+    w.equation("extrapolated", &format!("extrapolated (pushBackward-{graph} .alpha) {n} {vectors}"), &extrapolated);
     let other = format!("({}) ({})", numbers(&from_source.estimate), numbers(&from_source.residual));
     let combined = both.solve_bidirectional(source, target);
-    w.equation("combined", &format!("combined (backward-{graph} .alpha) {vectors} {other} {n}"), &bits(combined));
+    w.equation("combined", &format!("combined (pushBackward-{graph} .alpha) {vectors} {other} {n}"), &bits(combined));
     let method = format!("(method {n} (rowsOf {n} links-{graph}) {source} {target})");
-    let adaptive = format!("answerBy {method} (backward-{graph} .alpha) {n} {source} {target} {b} {f}");
+    let adaptive = format!("answerBy {method} (pushBackward-{graph} .alpha) {n} {source} {target} {b} {f}");
     w.equation("adaptive", &adaptive, &bits(both.adaptive_solve(source, target)));
 }
 
@@ -225,13 +225,13 @@ fn write_long(w: &mut Written) {
     let (link, record) = (format!("link 0 0 ({}) ∷ []", bits(1.0)), record(&settings(CUTS[2])));
     writeln!(w.text, "\nabbrev links-{graph} : List Link\nlinks-{graph} = {link}").expect("a string");
     writeln!(w.text, "\nabbrev settings-{graph} : Settings\nsettings-{graph} = {record}").expect("a string");
-    for direction in ["forward", "backward"] {
+    for direction in ["pushForward", "pushBackward"] {
         let run = format!("run (overLinks {direction} 1 links-{graph}) settings-{graph} unwatched");
         let mut from = format!("(start (overLinks {direction} 1 links-{graph}) settings-{graph} unwatched {node})");
         let mut turns = [CUTS[0], CUTS[1] - CUTS[0], 2 * CUTS[2] + 1 - CUTS[1]].into_iter();
         for cut in CUTS {
             let made = PushGraph::from_edges(1, &links);
-            let Run { push_count: pushes, estimate, residual, .. } = if direction == "forward" {
+            let Run { push_count: pushes, estimate, residual, .. } = if direction == "pushForward" {
                 ForwardPushSolver::new(made, settings(cut).forward()).solve_single_source(0).into()
             } else {
                 BackwardPushSolver::new(made, settings(cut).backward()).solve_single_target(0).into()

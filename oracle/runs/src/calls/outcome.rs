@@ -19,6 +19,16 @@ pub enum Contents {
     Real(Vec<f64>),
 }
 
+impl Contents {
+    /// Those of a vector.
+    pub fn reals(&self) -> &[f64] {
+        match self {
+            Self::Real(vector) => vector,
+            Self::Whole(_) => unreachable!("a solve answers with vectors"),
+        }
+    }
+}
+
 /// What a call returns.
 #[derive(Clone, Copy, Debug)]
 pub enum Returned {

@@ -1,8 +1,8 @@
 -- `forward_push::extrapolation::extrapolated_solution` meets its contract: refused by what the tests say, or done as `extrapolate` says. Assumes nothing.
 use mathlib.Core.Path.{_≡_, sym, ap, _∙_}
 use denote.Ref.{now}
-use Rattle.refusals.specs.Refusals.{lengths, unlike}
-use Rattle.refusals.specs.Calls.{left}
+use Rattle.refusals.specs.Refusals.{refuseLengths, lengthsDiffer}
+use Rattle.refusals.specs.Calls.{outcomeOf}
 use Rattle.refusals.proofs.Laws.{refused, accepted, or-zero, sized}
 use Rattle.forward_push.specs.Outcomes.{extrapolatedRefusal, extrapolating}
 use borrow.Author.Needs.{needs}
@@ -11,7 +11,7 @@ use Rattle.forward_push.proofs.extrapolation.extrapolated_solution.Tie 
 
 -- the number
 number : (c : tie.After-or) → let a = c .before .before .before .before .before .before .args in c .or .result ≡ extrapolatedRefusal (now (a .estimate)) (now (a .residual)) (a .alpha) (now (a .solution))
-unfolding extrapolatedRefusal lengths unlike
+unfolding extrapolatedRefusal refuseLengths lengthsDiffer
 number c = rw (c .before .refuse-alpha .ensures, c .before .before .refuse-sizes .ensures) at (c .or .ensures)
 
 refuse-sizes-requires : tie.Need-refuse-sizes-requires
@@ -38,7 +38,7 @@ same-length c = search needs
 
 returns-2 : tie.Need-returns-2
 unfolding extrapolating
-returns-2 c = accepted _ _ _ _ (number (c .before .before .before .before .before)) (c .before .before .before .before .if1 .left) (ap (left 0) (c .before .before .extrapolate .ensures))
+returns-2 c = accepted _ _ _ _ (number (c .before .before .before .before .before)) (c .before .before .before .before .if1 .left) (ap (outcomeOf 0) (c .before .before .extrapolate .ensures))
 
 pub extrapolated-solution-spec : {M : Type 1} → statement M
 extrapolated-solution-spec =

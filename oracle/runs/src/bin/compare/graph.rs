@@ -28,7 +28,7 @@ pub fn compare(asked: &Asked, comparison: &mut Comparison, random: &mut Random) 
 }
 
 fn small_lists(asked: &Asked, comparison: &mut Comparison) {
-    for links in 0..=asked.size(3, 4) as u32 {
+    for links in 0..=asked.every_up_to(3, 4) as u32 {
         let name = format!("graph, every list of up to 3 nodes and {links} links");
         comparison.kind(&name, lists::every(3, links, SUMMED_WEIGHTS), of_links, smaller);
     }

@@ -42,12 +42,12 @@ pub fn compare(asked: &Asked, comparison: &mut Comparison, random: &mut Random) 
     kind("limits of settings, each two", &mut limits::settings().into_iter());
     kind("limits of nodes, links and sources", &mut limits::sizes().into_iter());
     kind("each field of the header", &mut damaged::fields().into_iter());
-    kind("each two fields of the header", &mut damaged::pairs_of_fields().into_iter());
+    kind("each two fields of the header", &mut damaged::pairs_of_fields().into_iter().step_by(asked.one_in()));
     kind("the same bytes shared out otherwise", &mut damaged::shared_otherwise().into_iter());
     kind("each flag, and each two", &mut damaged::flags().into_iter());
-    kind("every length", &mut damaged::lengths(asked.full).into_iter());
+    kind("every length", &mut damaged::lengths(asked.full).into_iter().step_by(asked.one_in()));
     kind("more bytes than a job can have", &mut damaged::long().into_iter());
-    kind("a bit turned in each place", &mut damaged::bits().into_iter());
+    kind("a bit turned in each place", &mut damaged::bits().into_iter().step_by(asked.one_in()));
     kind("several bytes exchanged", &mut damaged::several(random, asked.size(3_000, 60_000)));
     kind("read in pieces, and from a file", &mut drawn::ways(random, asked.size(60, 600)));
     let thousands = drawn::thousands(random, asked.size(300, 6_000));

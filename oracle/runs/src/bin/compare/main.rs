@@ -1,39 +1,42 @@
 //! Compares the proved library with the repaired Rust, input by input.
 //!
-//! compare [full | short] [seed N] [for MINUTES] [behind | before] [overrun NAME] [store] [forward] [backward] [bidirectional] [jobs] [planted]
+//! compare [full | quarter | short] [seed N] [for MINUTES] [behind | before] [overrun NAME] [store] [forward] [backward] [bidirectional] [recorded] [jobs] [planted]
 //!
 //! Without `full` it runs the share that the gate runs. Where parts are named it runs these: `store` is the square
-//! root, the norm, the graph store and the calls on vectors alone, `jobs` the job program as a process. `planted` puts
-//! one wrong digit into some of the proved library's answers, of the square root, of each call of the solvers and of
-//! the job program, to show that a difference is found: the program must then fail, and it does so only where each is
-//! found. With `for` it begins anew with the next seed, part by part, until so many minutes are over.
+//! root, the norm, the graph store and the calls on vectors alone, `recorded` what `record solver` wrote of the Rust,
+//! which itself is not called there, `jobs` the job program as a process. `planted` puts one wrong digit into some of the
+//! proved library's answers, of the square root, of each call of the solvers, of each that is recorded and of the job
+//! program, to show that a difference is found: the program must then fail, and it does so only where each is found.
+//! With `for` it begins anew with the next seed, part by part, until so many minutes are over.
 //!
 //! `behind` puts every list that is lent right before memory that nothing may touch, and `before` right behind such memory, so
-//! that a word read or written outside ends the program. `short` draws a hundredth of the gate's inputs, and no large ones.
-//! `overrun NAME` does what must end it: see `overrun`.
+//! that a word read or written outside ends the program. `short` draws a hundredth of the gate's inputs, and no large ones;
+//! `quarter` is the gate's share under an emulator. `overrun NAME` does what must end it: see `overrun`.
 mod calls;
 mod graph;
 mod jobs;
 mod norm;
 mod overrun;
+mod recorded;
 mod solves;
 mod square_root;
 mod vectors;
 
 use runs::calls::entry::Solver;
+use runs::calls::vectors::ENTRIES;
 use runs::comparison::Comparison;
 use runs::fenced::Fence;
 use runs::lent;
 use runs::random::Random;
 use std::time::{Duration, Instant};
 
-const PARTS: [&str; 5] = ["store", "forward", "backward", "bidirectional", "jobs"];
+const PARTS: [&str; 6] = ["store", "forward", "backward", "bidirectional", "recorded", "jobs"];
 const SOLVERS: [Solver; 3] = [Solver::Forward, Solver::Backward, Solver::Bidirectional];
-const VECTORS: [vectors::Entry; 2] = [vectors::Entry::Extrapolated, vectors::Entry::Combined];
 
 /// What a run was asked for.
 pub struct Asked {
     pub full: bool,
+    pub quarter: bool,
     pub short: bool,
     pub planted: bool,
     pub seed: u64,
@@ -46,13 +49,29 @@ pub struct Asked {
 impl Asked {
     /// The number of inputs: `gate` in the gate, `full` in a full run.
     pub fn size(&self, gate: u64, full: u64) -> u64 {
-        if self.short {
-            return gate.div_ceil(100);
+        match () {
+            _ if self.short => gate.div_ceil(100),
+            _ if self.quarter => gate.div_ceil(4),
+            _ if self.full => full,
+            _ => gate,
         }
-        if self.full {
-            full
-        } else {
+    }
+
+    /// How large the graphs are of which every one is tried: as `size`, but a quarter of the inputs tries them all too.
+    pub fn every_up_to(&self, gate: u64, full: u64) -> u64 {
+        if self.quarter {
             gate
+        } else {
+            self.size(gate, full)
+        }
+    }
+
+    /// Of inputs that are listed, and not drawn, a run takes one in so many: for those that each take a process of their own.
+    pub fn one_in(&self) -> usize {
+        if self.quarter {
+            4
+        } else {
+            1
         }
     }
 
@@ -67,11 +86,20 @@ impl Asked {
 }
 
 fn main() {
-    let mut asked = Asked { full: false, short: false, planted: false, seed: 1, time: Duration::ZERO, parts: Vec::new() };
+    let mut asked = Asked {
+        full: false,
+        quarter: false,
+        short: false,
+        planted: false,
+        seed: 1,
+        time: Duration::ZERO,
+        parts: Vec::new(),
+    };
     let mut words = std::env::args().skip(1);
     while let Some(word) = words.next() {
         match word.as_str() {
             "full" => asked.full = true,
+            "quarter" => asked.quarter = true,
             "short" => asked.short = true,
             "behind" => lent::fence(Fence::Behind),
             "before" => lent::fence(Fence::Before),
@@ -80,7 +108,7 @@ fn main() {
             "seed" => asked.seed = number(&mut words, "seed"),
             "for" => asked.time = Duration::from_secs(60 * number(&mut words, "for")),
             part if PARTS.contains(&part) => asked.parts.push(word),
-            _ => panic!("compare [full | short] [seed N] [for MINUTES] [behind | before] [overrun NAME] [store] [forward] [backward] [bidirectional] [jobs] [planted]"),
+            _ => panic!("compare [full | quarter | short] [seed N] [for MINUTES] [behind | before] [overrun NAME] [store] [forward] [backward] [bidirectional] [recorded] [jobs] [planted]"),
         }
     }
     if asked.planted {
@@ -113,10 +141,11 @@ fn compare(asked: &Asked, part: &str, comparison: &mut Comparison, random: &mut 
             square_root::compare(asked, comparison, random);
             norm::compare(asked, comparison, random);
             graph::compare(asked, comparison, random);
-            for entry in VECTORS {
+            for entry in ENTRIES {
                 vectors::compare(asked, entry, comparison, random);
             }
         }
+        "recorded" => recorded::compare(comparison),
         "jobs" => jobs::compare(asked, comparison, random),
         _ => {
             for solver in SOLVERS.into_iter().filter(|solver| solver.name() == part) {
@@ -135,9 +164,12 @@ fn planted(asked: &Asked, random: &mut Random) {
         solves::planted(solver, &mut comparison, random);
     }
     if asked.asks_for("store") {
-        for entry in VECTORS {
+        for entry in ENTRIES {
             vectors::planted(entry, &mut comparison, random);
         }
+    }
+    if asked.asks_for("recorded") {
+        recorded::planted(&mut comparison);
     }
     if asked.asks_for("jobs") {
         jobs::planted(&mut comparison, random);

@@ -130,7 +130,7 @@ impl Solves<'_> {
             let several = (0..self.size(2_000, 50_000)).map(|_| damaged::several(random, entry, &all));
             kind("several damages", &mut several.into_iter());
             if entry.takes_rows() {
-                let nodes = self.asked.size(2, 3) as u32;
+                let nodes = self.asked.every_up_to(2, 3) as u32;
                 let name = format!("every rows of up to {nodes} nodes and 3 links, sound or not");
                 kind(&name, &mut limits::every_rows(entry, nodes, 3));
             }

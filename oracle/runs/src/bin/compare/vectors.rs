@@ -1,57 +1,25 @@
 //! The two calls that take vectors and alpha alone, `extrapolated_solution` and `combine_with_forward`, against the
 //! Rust's, and against the refusals of docs/RULES.md.
-use crate::calls::buffer::{outside, unlike_numbers};
+use crate::calls::buffer::{turned, Buffer};
 use crate::calls::sound::MOST_NODES;
 use crate::calls::wishes::ALPHAS;
 use crate::Asked;
 use repaired::graph::PushGraph;
 use repaired::solver::backward_push::{BackwardPushConfig, BackwardPushResult, BackwardPushSolver};
 use repaired::solver::forward_push::{ForwardPushConfig, ForwardPushResult, ForwardPushSolver};
-use runs::calls::call::abridged;
+use runs::calls::lending::Lending;
+use runs::calls::outcome::{Contents, Outcome, Returned};
 use runs::calls::refusal::alpha_refused;
-use runs::comparison::{same, Comparison};
-use runs::entries;
+use runs::calls::shape::Kind;
+use runs::calls::vectors::{Case, Entry};
+use runs::comparison::Comparison;
+use runs::entries::{self, Scored};
 use runs::lent::Lent;
 use runs::random::Random;
-use std::fmt::{Debug, Formatter, Result};
-
-/// Which of the two is called.
-#[derive(Clone, Copy, PartialEq, Eq)]
-pub enum Entry {
-    /// It reads an estimate and a residual, and is lent a buffer for its answer.
-    Extrapolated,
-    /// It reads the backward pair and the forward pair, and returns its answer.
-    Combined,
-}
-
-/// A call, with the vectors that it reads, and the length of the buffer for its answer, if it has one.
-#[derive(Clone)]
-struct Case {
-    entry: Entry,
-    read: Vec<Vec<f64>>,
-    alpha: f64,
-    length: usize,
-}
-
-impl Entry {
-    fn name(self) -> &'static str {
-        match self {
-            Entry::Extrapolated => "extrapolated_solution",
-            Entry::Combined => "combine_with_forward",
-        }
-    }
-
-    fn vectors(self) -> usize {
-        match self {
-            Entry::Extrapolated => 2,
-            Entry::Combined => 4,
-        }
-    }
-}
 
 pub fn compare(asked: &Asked, entry: Entry, comparison: &mut Comparison, random: &mut Random) {
     let mut kind = |name: &str, inputs: Vec<Case>| {
-        let difference = |case: &Case| difference(case, false);
+        let difference = |case: &Case| difference(case, &expected(case), false);
         comparison.kind(&format!("{}, {name}", entry.name()), inputs.into_iter(), difference, smaller);
     };
     kind("any numbers", (0..asked.size(20_000, 500_000)).map(|_| any(random, entry, 12)).collect());
@@ -64,7 +32,7 @@ pub fn compare(asked: &Asked, entry: Entry, comparison: &mut Comparison, random:
 /// The last digit of the answer, or of its first number, is turned.
 pub fn planted(entry: Entry, comparison: &mut Comparison, random: &mut Random) {
     let inputs: Vec<Case> = (0..100).map(|_| any(random, entry, 12)).collect();
-    let difference = |case: &Case| difference(case, true);
+    let difference = |case: &Case| difference(case, &expected(case), true);
     comparison.kind(&format!("{}, planted", entry.name()), inputs.into_iter(), difference, smaller);
 }
 
@@ -80,62 +48,60 @@ fn refusal(case: &Case) -> u32 {
     }
 }
 
-fn turned(number: f64) -> f64 {
-    f64::from_bits(number.to_bits() ^ 1)
+/// What the call is to come to.
+fn expected(case: &Case) -> Outcome {
+    match (refusal(case), case.entry) {
+        (0, Entry::Extrapolated) => {
+            Outcome::Done { returned: Returned::Number(0), answer: vec![Contents::Real(extrapolated(case))] }
+        }
+        (0, Entry::Combined) => {
+            let returned = Returned::Scored(Scored { refusal: 0, score: combined(case) });
+            Outcome::Done { returned, answer: Vec::new() }
+        }
+        (number, _) => Outcome::Refused(number),
+    }
 }
 
-/// What differs, if anything; where it is `planted`, a digit is turned before.
-fn difference(case: &Case, planted: bool) -> Option<String> {
+/// What differs from the expected outcome, if anything; where it is `planted`, a digit is turned before.
+pub fn difference(case: &Case, expected: &Outcome, planted: bool) -> Option<String> {
     let name = case.entry.name();
     let read: Vec<Lent<f64>> = case.read.iter().map(|vector| Lent::holding(vector)).collect();
-    let found = match (case.entry, &read[..]) {
-        (Entry::Extrapolated, [estimate, residual]) => extrapolation_differs(case, estimate, residual, planted),
-        (Entry::Combined, read) => combination_differs(case, read, planted),
-        _ => unreachable!("the vectors are made for the entry"),
-    };
+    let mut written: Vec<Buffer> = (0..case.entry.written()).map(|_| Buffer::patterned(Kind::Real, case.length)).collect();
+    let mut returned = made(case, &read, Lending(&mut written.iter_mut().map(Buffer::lend)));
+    if planted {
+        written.iter_mut().for_each(Buffer::spoil);
+        if let Returned::Scored(scored) = &mut returned {
+            scored.score = turned(scored.score);
+        }
+    }
     let mut lent = read.iter().zip(&case.read);
     if lent.any(|(lent, contents)| !lent.guarded() || lent.differs(contents).is_some()) {
         return Some(format!("{name} has written to a list that it was lent to read"));
     }
-    found.map(|found| format!("{name} returns {found}"))
-}
-
-fn extrapolation_differs(case: &Case, estimate: &Lent<f64>, residual: &Lent<f64>, planted: bool) -> Option<String> {
-    let mut solution = Lent::patterned(case.length);
-    let number = entries::extrapolated_solution(estimate.slice(), residual.slice(), case.alpha, solution.slice_mut());
-    if let (true, Some(first)) = (planted, solution.slice_mut().first_mut()) {
-        *first = turned(*first);
-    }
-    let right = refusal(case);
-    if number != right {
-        return Some(format!("{number}, where {right} is right"));
-    }
-    let altered = || solution.altered().map(|place| format!("[{place}] was altered by a refusal"));
-    let found = outside(solution.guarded()).or_else(|| match right {
-        0 => unlike_numbers(&solution, &extrapolated(case)),
-        _ => altered(),
-    });
-    found.map(|found| format!("{number}, but solution{found}"))
-}
-
-fn combination_differs(case: &Case, read: &[Lent<f64>], planted: bool) -> Option<String> {
-    let [backward_estimate, backward_residual, forward_estimate, forward_residual] = read else {
-        unreachable!("the vectors are made for the entry")
+    let right = match expected {
+        Outcome::Refused(number) => case.entry.refused(*number),
+        Outcome::Done { returned, .. } => *returned,
     };
-    let mut scored = entries::combine_with_forward(
-        backward_estimate.slice(),
-        backward_residual.slice(),
-        forward_estimate.slice(),
-        forward_residual.slice(),
-        case.alpha,
-    );
-    if planted {
-        scored.score = turned(scored.score);
+    if !returned.same(right) {
+        return Some(format!("{name} returns {returned:?}, where {right:?} is right"));
     }
-    let right = refusal(case);
-    let score = if right == 0 { combined(case) } else { 0.0 };
-    let differs = scored.refusal != right || !same(scored.score, score);
-    differs.then(|| format!("{scored:?}, where {right} and {:016x} ({score:?}) is right", score.to_bits()))
+    let mut buffers = written.iter().enumerate();
+    let found = buffers.find_map(|(place, buffer)| buffer.difference(expected, place))?;
+    Some(format!("{name} returns {returned:?}, but solution{found}"))
+}
+
+/// Makes the call.
+fn made(case: &Case, read: &[Lent<f64>], mut written: Lending) -> Returned {
+    let read: Vec<&[f64]> = read.iter().map(Lent::slice).collect();
+    match (case.entry, &read[..]) {
+        (Entry::Extrapolated, [estimate, residual]) => {
+            Returned::Number(entries::extrapolated_solution(estimate, residual, case.alpha, written.reals()))
+        }
+        (Entry::Combined, [estimate, residual, forward_estimate, forward_residual]) => Returned::Scored(
+            entries::combine_with_forward(estimate, residual, forward_estimate, forward_residual, case.alpha),
+        ),
+        _ => unreachable!("the vectors are made for the entry"),
+    }
 }
 
 /// What the Rust gives: it reads alpha and the vectors.
@@ -181,7 +147,7 @@ fn of_size(random: &mut Random, entry: Entry, size: usize) -> Case {
 /// Every length that is one off, and each two, with an alpha that passes and with one that does not.
 fn lengths(random: &mut Random, entry: Entry) -> Vec<Case> {
     let mut found = Vec::new();
-    let lists = entry.vectors() as u32 + u32::from(entry == Entry::Extrapolated);
+    let lists = (entry.vectors() + entry.written()) as u32;
     for size in [1, 2, 7] {
         for place in 0..3usize.pow(lists) {
             for alpha in [0.15, 1.5, f64::NAN] {
@@ -219,15 +185,4 @@ fn smaller(case: &Case) -> Vec<Case> {
     };
     let shortest = case.read.iter().map(Vec::len).min().unwrap_or(0);
     (0..shortest).map(without).collect()
-}
-
-impl Debug for Case {
-    fn fmt(&self, out: &mut Formatter<'_>) -> Result {
-        let read: Vec<String> = self.read.iter().map(|vector| abridged(vector)).collect();
-        write!(out, "{}, alpha = {:?}", read.join(", "), self.alpha)?;
-        if self.entry == Entry::Extrapolated {
-            write!(out, ", solution {} long", self.length)?;
-        }
-        Ok(())
-    }
 }

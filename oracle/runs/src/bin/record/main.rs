@@ -1,7 +1,8 @@
-//! Records what the repaired Rust answers, for programs of Rattle to replay through the proved library. A recording is
-//! seeded, so it comes out the same every time.
+//! Records what the repaired Rust answers, to be held to the proved library without the Rust: a program of Rattle replays
+//! what the queue did, and `compare recorded` makes the calls of the solvers. A recording is seeded, so it comes out the same
+//! every time.
 //!
-//! `record queue > crates/queue_check/stdin`, `record solver > crates/solver_check/stdin`
+//! `record queue > crates/queue_check/stdin`, `record solver > oracle/recorded/solver`
 mod queue;
 mod recorder;
 mod solver;

@@ -1,6 +1,9 @@
 //! Puts records one after the other, and says what they hold.
-use crate::solves::layout::solve_record;
-use crate::solves::recorded::{Answer, Recorded};
+use crate::solves::recorded::Recorded;
+use crate::solves::vectors::Vectors;
+use runs::calls::outcome::Outcome;
+use runs::calls::vectors;
+use runs::recorded::layout::{Record, RECORDS};
 
 #[derive(Default)]
 pub struct Recorder {
@@ -11,31 +14,25 @@ pub struct Recorder {
 }
 
 impl Recorder {
-    /// A record of a call that is done.
-    pub fn done(&mut self, record: Vec<u8>) {
+    fn put(&mut self, record: &Record) {
         self.answers += 1;
-        self.records.extend(record);
+        self.refused += usize::from(record.refusal != 0);
+        self.pushes = self.pushes.max(record.pushes);
+        self.records.extend(record.bytes());
     }
 
-    /// A record of a call that is refused.
-    pub fn refused(&mut self, record: Vec<u8>) {
-        self.refused += 1;
-        self.done(record);
+    pub fn solve(&mut self, recorded: &Recorded, outcome: &Outcome) {
+        self.put(&Record::of_solve(&recorded.call, recorded.read, outcome));
     }
 
-    pub fn solve(&mut self, recorded: &Recorded) {
-        let answer = recorded.answer();
-        self.pushes = self.pushes.max(answer.pushes);
-        self.done(solve_record(recorded, &answer));
-    }
-
-    pub fn refused_solve(&mut self, (recorded, number): (Recorded, u32)) {
-        self.refused(solve_record(&recorded, &Answer::refused(number)));
+    pub fn vectors(&mut self, entry: vectors::Entry, call: &Vectors, outcome: &Outcome) {
+        self.put(&Record::of_vectors(entry, &call.read, call.settings, &call.lengths, outcome));
     }
 
     pub fn finished(self) -> Vec<u8> {
         let Self { records, answers, refused, pushes } = self;
         eprintln!("{answers} answers, {refused} refused, up to {pushes} pushes, {} bytes", records.len());
+        assert_eq!(answers, RECORDS, "who reads them asks for so many");
         records
     }
 }

@@ -1,8 +1,7 @@
-//! Records what the repaired Rust's solvers answer on small graphs, one record to a call, for `crates/solver_check` to
-//! replay through the public calls. `solves::layout` says how a record is laid out.
+//! Records what the repaired Rust's solvers answer on small graphs, one record to a call, for `compare recorded` to make the
+//! public calls of the proved library and compare their answers. `runs::recorded` says how a record is laid out.
 use crate::recorder::Recorder;
-use crate::solves::layout::{solves, vectors_record, COMBINED, EXTRAPOLATED};
-use crate::solves::recorded::Answer;
+use crate::solves::recorded::Recorded;
 use crate::solves::vectors::{self, Vectors};
 use crate::solves::{damage, drawn};
 use repaired::graph::PushGraph;
@@ -10,7 +9,11 @@ use repaired::solver::backward_push::{BackwardPushResult, BackwardPushSolver};
 use repaired::solver::forward_push::{ForwardPushResult, ForwardPushSolver};
 use runs::calls::approach;
 use runs::calls::entry::{Entry, Form, Question, Solver, Task};
+use runs::calls::outcome::{Contents, Outcome, Returned};
+use runs::calls::vectors::Entry::{Combined, Extrapolated};
+use runs::entries::Scored;
 use runs::random::Random;
+use runs::recorded::called::solves;
 
 /// A part of the recording: some of the solves, and a call that takes their vectors.
 struct Part {
@@ -27,11 +30,10 @@ struct Part {
 
 /// A call that takes vectors alone.
 struct Combining {
-    number: u32,
-    /// The solves whose vectors it takes, and how many vectors it writes.
+    entry: runs::calls::vectors::Entry,
+    /// The solves whose vectors it takes.
     of: Vec<Entry>,
-    writes: usize,
-    answer: fn(&Vectors) -> Answer,
+    outcome: fn(&Vectors) -> Outcome,
     /// What it is given where it is refused.
     refused: &'static [&'static [f64]],
 }
@@ -40,27 +42,28 @@ fn single(solver: Solver) -> Entry {
     Entry::Solve(Question { solver, task: Task::Single }, Form::Links)
 }
 
-fn extrapolated(call: &Vectors) -> Answer {
+fn extrapolated(call: &Vectors) -> Outcome {
     let solver = ForwardPushSolver::new(PushGraph::from_edges(0, &[]), call.settings.forward());
     let (estimate, residual) = (call.read[0].clone(), call.read[1].clone());
     let given = ForwardPushResult { estimate, residual, push_count: 0, nodes_visited: 0, residual_norm: 0.0 };
-    Answer { vectors: vec![solver.extrapolated_solution(&given)], ..Answer::refused(0) }
+    let answer = vec![Contents::Real(solver.extrapolated_solution(&given))];
+    Outcome::Done { returned: Returned::Number(0), answer }
 }
 
-fn combined(call: &Vectors) -> Answer {
+fn combined(call: &Vectors) -> Outcome {
     let solver = BackwardPushSolver::new(PushGraph::from_edges(0, &[]), call.settings.backward());
     let (estimate, residual) = (call.read[0].clone(), call.read[1].clone());
     let given = BackwardPushResult { estimate, residual, push_count: 0, nodes_visited: 0, residual_norm: 0.0 };
-    Answer { number: solver.combine_with_forward(&given, &call.read[2], &call.read[3]), ..Answer::refused(0) }
+    let score = solver.combine_with_forward(&given, &call.read[2], &call.read[3]);
+    Outcome::Done { returned: Returned::Scored(Scored { refusal: 0, score }), answer: Vec::new() }
 }
 
 /// The forward solves and the extrapolation of one.
 fn forward() -> Part {
     let combining = Combining {
-        number: EXTRAPOLATED,
+        entry: Extrapolated,
         of: vec![single(Solver::Forward)],
-        writes: 1,
-        answer: extrapolated,
+        outcome: extrapolated,
         refused: &[&[0.5, 0.25, 0.0], &[0.0, 0.25, 0.5]],
     };
     let solves = solves().into_iter().filter(|entry| entry.pushes_forward()).collect();
@@ -70,29 +73,36 @@ fn forward() -> Part {
 /// The backward solves, those of both ways, and a backward solve combined with a forward one.
 fn backward() -> Part {
     let combining = Combining {
-        number: COMBINED,
+        entry: Combined,
         of: vec![single(Solver::Backward), single(Solver::Forward)],
-        writes: 0,
-        answer: combined,
+        outcome: combined,
         refused: &[&[0.5, 0.25, 0.0], &[0.0, 0.25, 0.5], &[0.125, 0.5, 0.25], &[0.25, 0.0, 0.125]],
     };
     let solves = solves().into_iter().filter(|entry| !entry.pushes_forward()).collect();
     Part { solves, combining, drawn: 15, watching: 5, damaged: 18, each: false }
 }
 
+fn sound(r: &mut Recorder, recorded: &Recorded) {
+    r.solve(recorded, &recorded.outcome());
+}
+
+fn refused(r: &mut Recorder, (recorded, number): (Recorded, u32)) {
+    r.solve(&recorded, &Outcome::Refused(number));
+}
+
 impl Part {
     fn sound(&self, r: &mut Recorder, random: &mut Random) {
-        let Combining { number, of, writes, answer, .. } = &self.combining;
+        let Combining { entry: combining, of, outcome, .. } = &self.combining;
         for _ in 0..self.drawn {
             for &entry in &self.solves {
-                r.solve(&drawn::solve(random, entry));
+                sound(r, &drawn::solve(random, entry));
             }
-            let call = vectors::drawn(random, of, *writes);
-            r.done(vectors_record(*number, &call, &answer(&call)));
+            let call = vectors::drawn(random, of, combining.written());
+            r.vectors(*combining, &call, &outcome(&call));
         }
         for &entry in self.solves.iter().filter(|entry| entry.task() == Some(Task::Watched)) {
             for _ in 0..self.watching {
-                r.solve(&drawn::watched(random, entry));
+                sound(r, &drawn::watched(random, entry));
             }
         }
     }
@@ -102,12 +112,12 @@ impl Part {
         let next_up = f64::from_bits(1e-12f64.to_bits() + 1);
         for &entry in &self.solves {
             for _ in 0..=usize::from(self.each) {
-                r.solve(&drawn::long(random, entry, true));
+                sound(r, &drawn::long(random, entry, true));
             }
-            r.solve(&drawn::long(random, entry, false));
+            sound(r, &drawn::long(random, entry, false));
             for (threshold, by_turns) in [(1e-12, !entry.takes_rows()), (next_up, entry.takes_rows())] {
                 if self.each || by_turns {
-                    r.solve(&drawn::floor(entry, threshold));
+                    sound(r, &drawn::floor(entry, threshold));
                 }
             }
         }
@@ -128,15 +138,16 @@ impl Part {
             let kept = all.filter(|(place, damage)| self.each || damage.number != 3 || place / 2 % 2 == place % 2);
             for (place, (_, damage)) in kept.enumerate() {
                 if place % sharing.len() == turn || damage.number == 7 {
-                    r.refused_solve(damage::refused(random, entry, std::iter::once(&damage)));
+                    refused(r, damage::refused(random, entry, std::iter::once(&damage)));
                 }
             }
         }
-        for (call, number) in vectors::refused(random, self.combining.refused, self.combining.writes) {
-            r.refused(vectors_record(self.combining.number, &call, &Answer::refused(number)));
+        let Combining { entry: combining, refused: given, .. } = self.combining;
+        for (call, number) in vectors::refused(random, given, combining.written()) {
+            r.vectors(combining, &call, &Outcome::Refused(number));
         }
         for _ in 0..self.damaged {
-            r.refused_solve(damage::several(random, &self.solves));
+            refused(r, damage::several(random, &self.solves));
         }
     }
 }

@@ -1,6 +1,6 @@
 //! A buffer that a call was lent to write, and how its contents differ from what they should be.
 use runs::calls::lending::Slice;
-use runs::calls::outcome::Contents;
+use runs::calls::outcome::{Contents, Outcome};
 use runs::calls::shape::Kind;
 use runs::comparison::same;
 use runs::lent::{Lent, Word};
@@ -29,8 +29,25 @@ impl Buffer {
         }
     }
 
+    /// Where it does not hold what the call is to leave in the buffer at this place of those that it writes.
+    pub fn difference(&self, expected: &Outcome, place: usize) -> Option<String> {
+        match expected {
+            Outcome::Refused(_) => self.unlike_before(),
+            Outcome::Done { answer, .. } => self.unlike(answer.get(place)),
+        }
+    }
+
+    /// Turns the last digit of its first number, if it has any.
+    pub fn spoil(&mut self) {
+        if let Real(lent) = self {
+            if let Some(number) = lent.slice_mut().first_mut() {
+                *number = turned(*number);
+            }
+        }
+    }
+
     /// Where it is not as it was before the call.
-    pub fn unlike_before(&self) -> Option<String> {
+    fn unlike_before(&self) -> Option<String> {
         let (guarded, altered) = match self {
             Whole(lent) => (lent.guarded(), lent.altered()),
             Wide(lent) => (lent.guarded(), lent.altered()),
@@ -40,7 +57,7 @@ impl Buffer {
     }
 
     /// Where it does not hold what it should: contents of an answer, or else zeros.
-    pub fn unlike(&self, contents: Option<&Contents>) -> Option<String> {
+    fn unlike(&self, contents: Option<&Contents>) -> Option<String> {
         match (self, contents) {
             (Whole(lent), Some(Contents::Whole(right))) => outside(lent.guarded()).or_else(|| {
                 let place = lent.differs(right)?;
@@ -55,8 +72,13 @@ impl Buffer {
     }
 }
 
+/// A number with its last digit turned.
+pub fn turned(number: f64) -> f64 {
+    f64::from_bits(number.to_bits() ^ 1)
+}
+
 /// Where a buffer holds another number than it should; one NaN counts as any other.
-pub fn unlike_numbers(lent: &Lent<f64>, right: &[f64]) -> Option<String> {
+fn unlike_numbers(lent: &Lent<f64>, right: &[f64]) -> Option<String> {
     let place = lent.unlike(right, same)?;
     let (a, b) = (lent.slice()[place], right[place]);
     Some(format!("[{place}] is {:016x} ({a:?}), where {:016x} ({b:?}) is right", a.to_bits(), b.to_bits()))
@@ -67,6 +89,6 @@ fn not_cleared<T: Word>(lent: &Lent<T>) -> Option<String> {
     outside(lent.guarded()).or_else(nonzero)
 }
 
-pub fn outside(guarded: bool) -> Option<String> {
+fn outside(guarded: bool) -> Option<String> {
     (!guarded).then(|| ": a word outside of it was written".to_string())
 }

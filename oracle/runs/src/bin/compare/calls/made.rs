@@ -1,5 +1,5 @@
 //! A call that was made: what it returned, what it left in every buffer, and how that differs from an expected outcome.
-use super::buffer::Buffer::{self, Real};
+use super::buffer::Buffer;
 use runs::calls::call::Call;
 use runs::calls::make::{make, Read};
 use runs::calls::outcome::{Outcome, Returned};
@@ -43,11 +43,7 @@ impl<'a> Made<'a> {
             return Some(format!("{name} has written to {read}, which it was lent to read"));
         }
         for (place, (shape, buffer)) in entry.written().iter().zip(&self.written).enumerate() {
-            let found = match expected {
-                Outcome::Refused(_) => buffer.unlike_before(),
-                Outcome::Done { answer, .. } => buffer.unlike(answer.get(place)),
-            };
-            if let Some(found) = found {
+            if let Some(found) = buffer.difference(expected, place) {
                 return Some(format!("{name} returns {returned:?}, but {}{found}", shape.name));
             }
         }
@@ -69,10 +65,6 @@ impl<'a> Made<'a> {
 
     /// Turns the last digit of the first number that the call has written.
     pub fn spoil(&mut self) {
-        if let Some(Real(lent)) = self.written.first_mut() {
-            if let Some(number) = lent.slice_mut().first_mut() {
-                *number = f64::from_bits(number.to_bits() ^ 1);
-            }
-        }
+        self.written.first_mut().into_iter().for_each(Buffer::spoil);
     }
 }

@@ -1,9 +1,10 @@
 //! Small graphs, settings, sources and targets, drawn so that each kind that the push rules tell apart comes often.
-use super::recorded::{Recorded, LINKS, NODES};
+use super::recorded::Recorded;
 use runs::calls::call::Wish;
 use runs::calls::entry::{Entry, Question, Solver, Task};
 use runs::entries::Settings;
 use runs::random::Random;
+use runs::recorded::layout::{LINKS, NODES};
 
 /// A node, and one time in 16 a number that is none.
 fn node(random: &mut Random, n: u32) -> u32 {

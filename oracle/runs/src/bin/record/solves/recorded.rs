@@ -1,16 +1,10 @@
 //! A solve to be recorded, with how long each list is that it is lent to read, and what the repaired Rust answers.
 use repaired::graph::PushGraph;
 use runs::calls::call::{Call, Wish};
-use runs::calls::entry::{Entry, Form, Question};
+use runs::calls::entry::Entry;
 use runs::calls::given;
-use runs::calls::outcome::{Contents, Outcome, Returned};
+use runs::calls::outcome::Outcome;
 use runs::calls::theirs::Theirs;
-use runs::entries::Settings;
-
-/// Room for nodes, for links, and for sources or targets.
-pub const NODES: usize = 12;
-pub const LINKS: usize = 24;
-pub const MANY: usize = 8;
 
 /// The lists that are read, as `Recorded` numbers them.
 pub const FIRST: usize = 0;
@@ -22,12 +16,6 @@ pub struct Recorded {
     /// How long the graph's three lists are lent, and that of sources or targets. A damage changes these, and leaves the
     /// lists as they are.
     pub read: [usize; 4],
-}
-
-/// The entries of these questions, in the order of their numbers: those of links, and then those of rows.
-pub fn entries(questions: &[Question]) -> Vec<Entry> {
-    let of = |form: Form| questions.iter().map(move |&question| Entry::Solve(question, form));
-    of(Form::Links).chain(of(Form::Rows)).collect()
 }
 
 impl Recorded {
@@ -44,61 +32,15 @@ impl Recorded {
         Self { call, read }
     }
 
-    /// The length of each buffer of workspace, by its names; 0 where the call has none of them.
-    pub fn workspace(&self, names: &[&[&str]]) -> Vec<usize> {
-        let shapes = self.call.entry.written();
-        let place = |names: &&[&str]| shapes.iter().position(|shape| names.contains(&shape.name));
-        names.iter().map(|names| place(names).map_or(0, |at| self.call.lengths[at])).collect()
-    }
-
-    /// The length of each buffer of the answer: what is lent to be written and is no workspace.
-    pub fn answers(&self, workspace: &[&[&str]]) -> Vec<usize> {
-        let shapes = self.call.entry.written();
-        let lent = shapes.iter().zip(&self.call.lengths);
-        lent.filter(|(shape, _)| !workspace.concat().contains(&shape.name)).map(|(_, &length)| length).collect()
-    }
-
     /// What the Rust answers to a sound call.
-    pub fn answer(&self) -> Answer {
+    pub fn outcome(&self) -> Outcome {
         let Call { entry: Entry::Solve(question, _), wish, .. } = &self.call else { unreachable!("a solve") };
-        let theirs = Theirs::new(question.solver, given::graph(&self.call), wish);
-        let Outcome::Done { returned, answer } = theirs.done(wish, *question) else { unreachable!("a sound call") };
-        let real = |contents| match contents {
-            Contents::Real(vector) => vector,
-            Contents::Whole(_) => unreachable!("a solve writes vectors"),
-        };
-        let vectors = answer.into_iter().map(real).collect();
-        match returned {
-            Returned::Solved(solved) => Answer {
-                pushes: solved.push_count as u32,
-                visited: solved.nodes_visited as u32,
-                number: solved.residual_norm,
-                vectors,
-                ..Answer::refused(0)
-            },
-            Returned::Scored(scored) => Answer { number: scored.score, vectors, ..Answer::refused(0) },
-            _ => Answer { vectors, ..Answer::refused(0) },
-        }
+        Theirs::new(question.solver, given::graph(&self.call), wish).done(wish, *question)
     }
-}
 
-pub struct Answer {
-    pub refusal: u32,
-    pub pushes: u32,
-    pub visited: u32,
-    /// The norm of a solve, the score of a query.
-    pub number: f64,
-    /// The vectors that the call writes.
-    pub vectors: Vec<Vec<f64>>,
-}
-
-impl Answer {
-    pub fn refused(refusal: u32) -> Self {
-        Self { refusal, pushes: 0, visited: 0, number: 0.0, vectors: Vec::new() }
+    /// The vectors of that answer.
+    pub fn vectors(&self) -> Vec<Vec<f64>> {
+        let Outcome::Done { answer, .. } = self.outcome() else { unreachable!("a sound call") };
+        answer.iter().map(|contents| contents.reals().to_vec()).collect()
     }
-}
-
-/// `max_pushes`, as a record has it.
-pub fn max_pushes(settings: &Settings) -> u32 {
-    u32::try_from(settings.max_pushes).expect("a small number")
 }

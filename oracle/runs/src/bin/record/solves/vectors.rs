@@ -1,9 +1,9 @@
 //! A call that takes vectors and alpha alone, of which the settings have the rest as well, and how it is drawn and damaged.
 use super::drawn;
-use super::recorded::NODES;
 use runs::calls::entry::Entry;
 use runs::entries::Settings;
 use runs::random::Random;
+use runs::recorded::layout::NODES;
 
 pub struct Vectors {
     pub read: Vec<Vec<f64>>,
@@ -25,7 +25,7 @@ pub fn drawn(random: &mut Random, entries: &[Entry], answers: usize) -> Vectors 
     let settings = drawn::settings(random);
     if random.below(2) == 0 {
         let solve = drawn::solve(random, entries[0]);
-        let pairs = entries.iter().map(|&entry| drawn::other(&solve, entry).answer().vectors);
+        let pairs = entries.iter().map(|&entry| drawn::other(&solve, entry).vectors());
         return Vectors::new(pairs.flatten().collect(), settings, answers);
     }
     let n = random.below(NODES as u64 + 1);

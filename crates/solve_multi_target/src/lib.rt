@@ -1,0 +1,3 @@
+// A backward solve from many targets: the public calls for a list of links and for rows.
+pub mod links;
+pub mod rows;

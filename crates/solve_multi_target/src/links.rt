@@ -1,0 +1,67 @@
+// A backward solve from many targets, of a list of links.
+ghost use Rattle.refusals.specs.Calls.{outcomeOf};
+ghost use Rattle.calls.specs.Lent.{solveLent, linksLent};
+ghost use Rattle.calls.specs.Outcomes.{givenLinks};
+ghost use Rattle.backward_push.specs.Lent.{backLent, reversing};
+ghost use Rattle.backward_push.specs.Outcomes.{solveMultiTarget};
+use calls::Solved;
+use refusals::Settings;
+use watching::Watch;
+
+#[no_mangle]
+pub extern "C" fn solve_multi_target_links(
+    n: u32,
+    from: &[u32],
+    to: &[u32],
+    weight: &[f64],
+    targets: &[u32],
+    settings: Settings,
+    estimate: &mut [f64],
+    residual: &mut [f64],
+    starts: &mut [u32],
+    columns: &mut [u32],
+    weights: &mut [f64],
+    reverse_starts: &mut [u32],
+    reverse_columns: &mut [u32],
+    reverse_weights: &mut [f64],
+    in_degrees: &mut [f64],
+    out_degrees: &mut [f64],
+    priorities: &mut [f64],
+    nodes: &mut [u32],
+    queued: &mut [u64],
+    visited: &mut [u64],
+) -> Solved
+    ensures { λ r. ⌜ solveMultiTarget (givenLinks reversing n (now (from .entry)) (now (to .entry)) (now (weight .entry))
+        (linksLent (now (starts .entry)) (now (columns .entry)) (now (weights .entry)) (backLent (now («reverse_starts» .entry)) (now («reverse_columns» .entry)) (now («reverse_weights» .entry)) (now («out_degrees» .entry))
+        (solveLent (now (estimate .entry)) (now (residual .entry)) (now («in_degrees» .entry)) (now (priorities .entry)) (now (nodes .entry)) (now (queued .entry)) (now (visited .entry))))))
+        (now (targets .entry)) settings (outcomeOf r (linksLent (now (starts .exit)) (now (columns .exit)) (now (weights .exit)) (backLent (now («reverse_starts» .exit)) (now («reverse_columns» .exit)) (now («reverse_weights» .exit)) (now («out_degrees» .exit))
+        (solveLent (now (estimate .exit)) (now (residual .exit)) (now («in_degrees» .exit)) (now (priorities .exit)) (now (nodes .exit)) (now (queued .exit)) (now (visited .exit)))))) ⌝ }
+{
+    let c = checked_backward_links::checked_links(
+        n,
+        from,
+        to,
+        weight,
+        targets,
+        false,
+        targets.len(),
+        Watch::Nobody,
+        settings,
+        0,
+        estimate,
+        residual,
+        starts,
+        columns,
+        weights,
+        reverse_starts,
+        reverse_columns,
+        reverse_weights,
+        in_degrees,
+        out_degrees,
+        priorities,
+        nodes,
+        queued,
+        visited,
+    );
+    calls::measured(c, residual)
+}
