@@ -10,10 +10,14 @@ int main(void) {
     uint32_t starts[4], columns[4], positions[3];
     double weights[4], degrees[3];
 
-    struct Built built = from_edges(3, from, 4, to, 4, weight, 4, starts, 4, columns, 4, weights, 4, positions, 3);
+    struct talwighest_built built = talwighest_from_edges(
+        3, from, 4, to, 4, weight, 4, starts, 4, columns, 4, weights, 4, positions, 3);
+    if (built.refusal != TALWIGHEST_DONE) {
+        return 1;
+    }
     printf("refusal %u, kept %u of 4\n", built.refusal, built.kept);
     /* Rows end at the last start, so the lists handed on are as long as links were kept. */
-    uint32_t refusal = row_sums(3, starts, 4, columns, built.kept, weights, built.kept, degrees, 3);
+    uint32_t refusal = talwighest_row_sums(3, starts, 4, columns, built.kept, weights, built.kept, degrees, 3);
     printf("refusal %u\n", refusal);
     for (uint32_t node = 0; node < 3; node++) {
         printf("node %u, degree %g:", node, degrees[node]);

@@ -9,14 +9,14 @@ int main(void) {
     const uint32_t to[] = {1, 2, 1, 2};
     const double weight[] = {1.0, 3.0, 1.0, 1.0};
     const uint32_t sources[] = {0};
-    const struct Settings settings = {0.15, 1e-6, 1e-8, 1000000, true};
+    const struct talwighest_settings settings = {0.15, 1e-6, 1e-8, 1000000, true};
     double estimate[4], residual[4], weights[4], degrees[4], priorities[4];
     uint32_t starts[5], columns[4], nodes[4];
     uint64_t queued[1], visited[1];
 
-    struct Solved solved = solve_multi_source_links(4, from, 4, to, 4, weight, 4, sources, 1, settings, estimate, 4, residual, 4,
-                                                    starts, 5, columns, 4, weights, 4, degrees, 4, priorities, 4, nodes, 4,
-                                                    queued, 1, visited, 1);
+    struct talwighest_solved solved = talwighest_solve_multi_source_links(
+        4, from, 4, to, 4, weight, 4, sources, 1, settings, estimate, 4, residual, 4, starts, 5, columns, 4, weights, 4,
+        degrees, 4, priorities, 4, nodes, 4, queued, 1, visited, 1);
     printf("refusal %u, %llu pushes on %llu nodes, norm %.3g\n", solved.refusal, (unsigned long long)solved.push_count,
            (unsigned long long)solved.nodes_visited, solved.residual_norm);
     for (uint32_t node = 0; node < 4; node++) {

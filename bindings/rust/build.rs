@@ -1,47 +1,39 @@
-//! Links the static libraries that `rt staticlib` wrote, one for each crate that exports functions.
-use std::path::{Path, PathBuf};
-use std::{env, fs};
+//! Links the archive that `./build`, at the top of the repository, makes. The environment variable TALWIGHEST_DIR names the
+//! folder that has it. Without it that is target/talwighest of the repository.
+use std::env;
+use std::path::PathBuf;
 
 fn main() {
-    let root = PathBuf::from(env::var("CARGO_MANIFEST_DIR").expect("cargo sets it")).join("../..");
+    println!("cargo:rerun-if-env-changed=TALWIGHEST_DIR");
     let processor = env::var("CARGO_CFG_TARGET_ARCH").expect("cargo sets it");
     if processor != "x86_64" {
-        stop(&format!("the static libraries are for x86-64, and this build is for {processor}"));
+        stop(&format!("the archive is for x86-64, and this build is for {processor}"));
     }
-    let crates = root.join("crates");
-    let mut names: Vec<String> =
-        files(&crates).into_iter().filter(|name| exports(&crates.join(name).join("src"))).collect();
-    names.sort();
-    let folder = root.join("target/staticlib");
-    let archive = |name: &str| folder.join(format!("lib{name}.a"));
-    let missing: Vec<&str> = names.iter().map(String::as_str).filter(|name| !archive(name).is_file()).collect();
-    if !missing.is_empty() {
+    let (folder, chosen) = match env::var_os("TALWIGHEST_DIR") {
+        Some(named) => (PathBuf::from(named), "which TALWIGHEST_DIR names"),
+        None => (beside(), "and TALWIGHEST_DIR names no other folder"),
+    };
+    // Cargo runs this in the crate's own folder, where a part of a path would lead elsewhere than its writer meant.
+    if !folder.is_absolute() {
+        stop(&format!("TALWIGHEST_DIR is {}, which is not a whole path: let it begin with /", folder.display()));
+    }
+    let archive = folder.join("libtalwighest.a");
+    println!("cargo:rerun-if-changed={}", archive.display());
+    if !archive.is_file() {
         stop(&format!(
-            "target/staticlib lacks the static libraries of {}: `oracle/build`, in the repository's root, proves and \
-             writes them all, and `rt staticlib NAME` one",
-            missing.join(", ")
+            "there is no libtalwighest.a in {}, {chosen}. `./build`, at the top of Talwighest's repository, makes the folder \
+             target/talwighest there, which has it",
+            folder.display()
         ));
     }
-    println!("cargo:rerun-if-changed={}", folder.display());
     println!("cargo:rustc-link-search=native={}", folder.display());
-    for name in &names {
-        println!("cargo:rerun-if-changed={}", archive(name).display());
-        println!("cargo:rustc-link-lib=static={name}");
-    }
+    println!("cargo:rustc-link-lib=static=talwighest");
 }
 
-/// Whether a crate exports functions.
-fn exports(source: &Path) -> bool {
-    let exported = |name: &String| {
-        let text = fs::read_to_string(source.join(name)).unwrap_or_default();
-        text.lines().any(|line| line == "#[no_mangle]")
-    };
-    files(source).iter().any(exported)
-}
-
-fn files(folder: &Path) -> Vec<String> {
-    let Ok(entries) = fs::read_dir(folder) else { stop(&format!("{} is missing", folder.display())) };
-    entries.filter_map(|entry| entry.ok()?.file_name().into_string().ok()).collect()
+/// The folder that `./build` makes, if the wrapper stands in the repository.
+fn beside() -> PathBuf {
+    let own = PathBuf::from(env::var_os("CARGO_MANIFEST_DIR").expect("cargo sets it"));
+    own.ancestors().nth(2).unwrap_or(&own).join("target/talwighest")
 }
 
 fn stop(reason: &str) -> ! {

@@ -1,4 +1,5 @@
-//! Declares functions of the static libraries, each with a safe function of the same name over it.
+//! Declares functions of the archive, each with a safe function over it. The archive has them with the prefix `talwighest_`,
+//! so that a program may have names such as `transpose` of its own.
 
 /// A declaration is read from the left: each parameter gives the words that the library's function takes for it, so that
 /// a list is a pointer and a length, and a record of lists those of each in turn.
@@ -9,6 +10,7 @@ macro_rules! exported {
     (@ $name:ident () -> $result:ty, [$($parameter:ident: $kind:ty,)*] [$($word:ty = $passed:expr,)*]) => {
         pub fn $name($($parameter: $kind),*) -> $result {
             extern "C" {
+                #[link_name = concat!("talwighest_", stringify!($name))]
                 fn $name($(_: $word),*) -> $result;
             }
             unsafe { $name($($passed),*) }

@@ -1,4 +1,4 @@
-//! The proved library's functions, as the static libraries export them: every list is lent by the caller. `include/check`
+//! The proved library's functions, as the archive exports them: every list is lent by the caller. `include/check`
 //! holds the declarations to the Rattle source, and the programs of `oracle/runs` read this module too, so that what is
 //! compared with the Rust is what the wrapper calls.
 #[macro_use]
