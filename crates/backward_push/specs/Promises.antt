@@ -1,3 +1,4 @@
+-- Inner: no public promise cites it.
 -- What the functions below the public calls ensure. Assumes nothing.
 use Prim.Native.Nat.{ℕ}
 use mathlib.Core.List.{List}

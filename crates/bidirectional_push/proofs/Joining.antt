@@ -20,8 +20,9 @@ use Rattle.graph.specs.Store.{Rowed, Compressed}
 use Rattle.graph.proofs.Back.{held-rowed, held-rows}
 use Rattle.rules.specs.Ways.{Way, pushForward, pushBackward, wayOf, over, rowAt, degreeOf}
 use Rattle.rules.specs.Rules.{State, unwatched, blank, inside, watchable, begun, solve, at}
-use Rattle.rules.specs.Answers.{Method, neither, backwardAlone, forwardAlone, both, method, scoreAt, answerBy}
+use Rattle.rules.specs.Answers.{Method, neither, backwardAlone, forwardAlone, both, methodAmong, method, scoreAt, answerBy}
 use Rattle.rules.proofs.Starts.{solve-nothing}
+use Rattle.pushes.specs.Buffers.{listsOf}
 use Rattle.pushes.specs.Meant.{Stands}
 use Rattle.solver.proofs.Graphs.{stands-over}
 use Rattle.calls.specs.declared.Counted.{Counted}
@@ -33,10 +34,10 @@ use Rattle.calls.proofs.Links.{made-left}
 use Rattle.backward_push.specs.Lent.{backLent, backDone}
 use Rattle.backward_push.specs.Promises.{Reversed}
 use Rattle.combination.specs.declared.Uses.{Uses}
-use Rattle.combination.specs.Methods.{usesForward, usesBackward, methodBy, Follows, scoreBy}
+use Rattle.combination.specs.Methods.{usesForward, usesBackward, methodFor, Follows, scoreBy}
 use Rattle.bidirectional_push.specs.Lent.{Pairs, BothLent, bothLent, joining}
 use Rattle.bidirectional_push.specs.Outcomes.{whereUsed, pairsBy, joined, bySolves}
-use Rattle.bidirectional_push.specs.Promises.{methodFor, Joins, ChecksBoth}
+use Rattle.bidirectional_push.specs.Promises.{Joins, ChecksBoth}
 
 -- ---- one solve
 
@@ -74,13 +75,13 @@ pub record Leaves (n : ℕ) (used : Bool) (z : State) (estimate residual priorit
 module _ {n : ℕ} {isBackward : Bool} {rows : List (List Entry)} {starts columns columns′ : List ℕ} {weights weights′ degrees out-degrees : List Float}
     (z : Directed n isBackward rows starts columns columns′ weights weights′ degrees out-degrees) (s : Settings) (v : ℕ) (used : Bool) where
   pub solve-leaves : {sources : List ℕ} {r : Counted} {estimate residual priorities : List Float} {nodes queued visited : List ℕ} → sources ≡ (if used then v ∷ [] else [])
-      → SolveSettled (Stands (length degrees) isBackward starts columns columns′ weights weights′ out-degrees) (λ way. solve way s unwatched (length degrees) sources) (length degrees)
+      → SolveSettled (Stands (length degrees) isBackward (listsOf starts columns columns′ weights weights′ degrees out-degrees)) (λ way. solve way s unwatched (length degrees) sources) (length degrees)
       r estimate residual priorities nodes queued visited
       → Leaves n used (solve (over isBackward n rows) s unwatched n (v ∷ [])) estimate residual priorities nodes queued visited
   solve-leaves e d =
       let h = rw (degrees-long z, e) at d in
       let way = over isBackward n rows in
-      let m = stands-over n isBackward rows starts columns columns′ weights weights′ out-degrees (z .rowed) (z .rows-are) (z .out-degrees-are) in
+      let m = stands-over n isBackward rows (listsOf starts columns columns′ weights weights′ degrees out-degrees) (z .rowed) (z .rows-are) (z .out-degrees-are) in
       record {
         estimate-is = h .estimate-is way m ∙ started-estimate way s n v used;
         residual-is = h .residual-is way m ∙ started-residual way s n v used;
@@ -99,12 +100,11 @@ module _ {n : ℕ} {starts columns reverse-starts reverse-columns : List ℕ} {w
   inward-is v l = sums-are (held-rowed (t .reversed)) (t .in-degrees-are) v l ∙ ap (λ (rs : List (List Entry)). degree (rowAt rs v)) (held-rows (t .reversed))
 
   -- so the method by degrees is the rules'
-  pub method-is : (adaptive : Bool) (source target : ℕ) → methodBy adaptive n in-degrees out-degrees source target ≡ methodFor adaptive n (rowsIn n starts columns weights) source target
-  unfolding methodBy method degreeOf over wayOf if_then_else_
-  method-is false source target = refl
-  method-is true source target = go (ltb source n && ltb target n) refl
+  pub method-is : (source target : ℕ) → methodAmong n (at out-degrees) (at in-degrees) source target ≡ method n (rowsIn n starts columns weights) source target
+  unfolding methodAmong method degreeOf over wayOf if_then_else_
+  method-is source target = go (ltb source n && ltb target n) refl
     where
-      go : (b : Bool) → (ltb source n && ltb target n) ≡ b → methodBy true n in-degrees out-degrees source target ≡ method n (rowsIn n starts columns weights) source target
+      go : (b : Bool) → (ltb source n && ltb target n) ≡ b → methodAmong n (at out-degrees) (at in-degrees) source target ≡ method n (rowsIn n starts columns weights) source target
       go true e =
           let l = all (ltb source n) (ltb target n) e in
           rw (e, sums-are rowed (t .out-degrees-are) source (ltb-true source n (l .0)), inward-is target (ltb-true target n (l .1)))
@@ -126,7 +126,7 @@ score-is both u alpha n source target b f w p q r s l = rw (w .forward-is, w .ba
 
 -- what both solves of rows leave, with the workspace cleared
 pub joined-left : (n source target : ℕ) (starts columns : List ℕ) (weights : List Float) (b₀ : BothLent) (sf sb : Settings) (adaptive : Bool) (u : Uses) {r : Float}
-    {fe fr be br reverse-weights out-degrees in-degrees priorities other-priorities : List Float} {reverse-starts reverse-columns nodes queued visited other-nodes other-queued other-visited : List ℕ} → Follows u (methodFor adaptive n (rowsIn n starts columns weights) source target)
+    {fe fr be br reverse-weights out-degrees in-degrees priorities other-priorities : List Float} {reverse-starts reverse-columns nodes queued visited other-nodes other-queued other-visited : List ℕ} → Follows u (methodFor adaptive (method n (rowsIn n starts columns weights) source target))
     → Leaves n (u .forward) (solve (over pushForward n (rowsIn n starts columns weights)) sf unwatched n (source ∷ [])) fe fr other-priorities other-nodes other-queued other-visited
     → Leaves n (u .backward) (solve (over pushBackward n (rowsIn n starts columns weights)) sb unwatched n (target ∷ [])) be br priorities nodes queued visited
     → r ≡ scoreBy u (sb .alpha) source target be br fe fr → length be ≡ n → reverse-starts ≡ replicate (n + 1) 0 → reverse-columns ≡ replicate (length columns) 0
@@ -135,7 +135,7 @@ pub joined-left : (n source target : ℕ) (starts columns : List ℕ) (weights :
     (outcomeOf r (bothLent fe fr (backLent reverse-starts reverse-columns reverse-weights out-degrees (solveLent be br in-degrees priorities nodes queued visited))))
 unfolding joined pairsBy givenRows ends backDone solveDone
 joined-left n source target starts columns weights b₀ sf sb adaptive u w x y e l rs rc rv o i =
-    let m = methodFor adaptive n (rowsIn n starts columns weights) source target in
+    let m = methodFor adaptive (method n (rowsIn n starts columns weights) source target) in
     let f = solve (over pushForward n (rowsIn n starts columns weights)) sf unwatched n (source ∷ []) in
     let b = solve (over pushBackward n (rowsIn n starts columns weights)) sb unwatched n (target ∷ []) in
     let fe = x .estimate-is ∙ ap (λ (used : Bool). whereUsed used n (f .estimate)) (w .forward-is) in
@@ -159,7 +159,7 @@ pub links-joined : {j : ℕ} (n source target : ℕ) (adaptive : Bool) (from to 
 unfolding joined givenRows givenLinks ends
 links-joined n source target adaptive from to weight l sf sb b h e d s c w =
     let leaves : List (List Entry) → Outcome Float BothLent = λ rows.
-    let m = methodFor adaptive n rows source target in
+    let m = methodFor adaptive (method n rows source target) in
     let f = solve (over pushForward n rows) sf unwatched n (source ∷ []) in
     let t = solve (over pushBackward n rows) sb unwatched n (target ∷ []) in
     outcomeOf (answerBy m (sb .alpha) n source target t f) (joining .done n (length from) (pairsBy m n t f)) in

@@ -1,3 +1,4 @@
+-- Inner: no public promise cites it.
 -- What the functions below the public calls ask and ensure. Assumes nothing.
 use Prim.Native.Nat.{ℕ, _≤_}
 use mathlib.Core.Bool.{Bool}

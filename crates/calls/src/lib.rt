@@ -10,7 +10,7 @@ ghost use Rattle.refusals.specs.Refusals.{lengthsDiffer};
 ghost use Rattle.rules.specs.Rules as Rules;
 ghost use Rattle.rules.specs.Answers.{extrapolated};
 ghost use Rattle.watching.specs.Watching.{watchIn};
-ghost use Rattle.pushes.specs.Buffers.{Rows};
+ghost use Rattle.pushes.specs.Buffers.{listsIn, lists, Rows};
 ghost use Rattle.pushes.specs.Meant.{Stands};
 ghost use Rattle.calls.specs.Lent.{words, solveLent};
 ghost use Rattle.calls.specs.Promises.{Fits, Measured, Queried, SolveSettled};
@@ -191,10 +191,9 @@ pub fn solve_settled<'a>(
     queued: &mut [u64],
     visited: &mut [u64],
 ) -> Counted
-    requires { ⌜ Rows (length (now degrees)) backward (now starts) (now columns) (now «reverse_columns») (now weights) (now «reverse_weights») (now degrees) (now «out_degrees»)
+    requires { ⌜ Rows (length (now degrees)) backward (listsIn starts columns «reverse_columns» weights «reverse_weights» degrees «out_degrees»)
         × Fits (length (now degrees)) (now sources) (solveLent (now estimate) (now residual) (now degrees) (now priorities) (now nodes) (now queued) (now visited)) ⌝ }
-    ensures { λ r. ⌜ SolveSettled (Stands (length (now (degrees .entry))) backward (now (starts .entry)) (now (columns .entry)) (now («reverse_columns» .entry))
-        (now (weights .entry)) (now («reverse_weights» .entry)) (now («out_degrees» .entry)))
+    ensures { λ r. ⌜ SolveSettled (Stands (length (now (degrees .entry))) backward (lists starts columns «reverse_columns» weights «reverse_weights» degrees «out_degrees»))
         (λ way. Rules.solve way settings (watchIn watch) (length (now (degrees .entry))) (now (sources .entry)))
         (length (now (degrees .entry))) r (now (estimate .exit)) (now (residual .exit)) (now (priorities .exit)) (now (nodes .exit)) (now (queued .exit)) (now (visited .exit)) ⌝ }
 {
@@ -218,9 +217,7 @@ pub fn solve_settled<'a>(
         visited,
     );
     let ones = marks::count(visited);
-    numbers::clear_floats(priorities);
-    numbers::clear(nodes);
-    marks::clear(queued);
+    queue::clear(priorities, nodes, queued);
     marks::clear(visited);
     Counted {
         refusal: 0,

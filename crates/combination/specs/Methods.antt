@@ -1,15 +1,13 @@
--- Which solves a method of `adaptive_solve` uses, which method the degrees speak for, and the score that the solves give. Assumes nothing.
+-- Which solves a method of `adaptive_solve` uses, the method of a call, and the score that the solves give. Assumes nothing.
 use Prim.Native.Nat.{ℕ}
-use mathlib.Core.Bool.{Bool, true, false, _&&_}
+use mathlib.Core.Bool.{Bool, true, false}
 use mathlib.Core.List.{List}
 use mathlib.Core.Path.{_≡_}
 use lib.ListN.{length, getD}
-use lib.Dec.{ltb}
 use lib.Ieee.{Float}
 use Rattle.numbers.specs.Numbers.{+0}
 use Rattle.numbers.specs.Choice.{if_then_else_}
-use Rattle.rules.specs.Rules.{at}
-use Rattle.rules.specs.Answers.{combined, Method, neither, backwardAlone, forwardAlone, both, byDegrees}
+use Rattle.rules.specs.Answers.{combined, Method, neither, backwardAlone, forwardAlone, both}
 use Rattle.combination.specs.declared.Uses.{Uses}
 
 -- whether the forward solve is used
@@ -26,17 +24,18 @@ usesBackward backwardAlone = true
 usesBackward forwardAlone = false
 usesBackward both = true
 
--- the method of a call, adaptive or not, by the degrees of n nodes
-unfoldable pub methodBy : Bool → ℕ → List Float → List Float → ℕ → ℕ → Method
-methodBy adaptive n in-degrees out-degrees source target =
-    if adaptive then (if ltb source n && ltb target n then byDegrees (at out-degrees source) (at in-degrees target) else neither) else both
+-- the method of a call: in adaptive mode the given one, which the rules' `method` is, and else both solves
+abbrev pub methodFor : Bool → Method → Method
+methodFor adaptive m = if adaptive then m else both
 
 -- which solves a method uses
 pub record Follows (u : Uses) (m : Method) : Type 0 where
   pub forward-is : u .forward ≡ usesForward m
   pub backward-is : u .backward ≡ usesBackward m
 
--- the score, by which solves are used
+-- The score, by which solves are used: a second form of the rules' `answerBy`. The code knows no method and no states, but two flags and four vectors, in
+-- which a solve that is not used left +0. `score-is` (bidirectional_push/proofs/Joining.antt) ties it: where the flags follow a method, it is what
+-- `answerBy` gives by that method.
 unfoldable pub scoreBy : Uses → Float → ℕ → ℕ → List Float → List Float → List Float → List Float → Float
 scoreBy u alpha source target be br fe fr =
     if u .forward then (if u .backward then combined alpha be br fe fr (length be) else getD fe target +0) else (if u .backward then getD be source +0 else +0)

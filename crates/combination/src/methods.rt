@@ -3,7 +3,9 @@ ghost use mathlib.Core.Path.{_≡_};
 ghost use mathlib.Core.List.{[]};
 ghost use lib.ListN.{length};
 ghost use Rattle.numbers.specs.Choice.{if_then_else_};
-ghost use Rattle.combination.specs.Methods.{methodBy, Follows, scoreBy};
+ghost use Rattle.rules.specs.Rules.{at};
+ghost use Rattle.rules.specs.Answers.{methodAmong};
+ghost use Rattle.combination.specs.Methods.{methodFor, Follows, scoreBy};
 use crate::Uses;
 use crate::combine;
 
@@ -16,7 +18,7 @@ pub fn choose(
     out_degrees: &[f64],
 ) -> Uses
     requires { ⌜ length (now «out_degrees») ≡ length (now «in_degrees») ⌝ }
-    ensures { λ r. ⌜ Follows r (methodBy adaptive (length (now («in_degrees» .entry))) (now («in_degrees» .entry)) (now («out_degrees» .entry)) source target) ⌝ }
+    ensures { λ r. ⌜ Follows r (methodFor adaptive (methodAmong (length (now («in_degrees» .entry))) (at (now («out_degrees» .entry))) (at (now («in_degrees» .entry))) source target)) ⌝ }
 {
     let s = source as usize;
     let t = target as usize;

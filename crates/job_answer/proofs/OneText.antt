@@ -9,8 +9,7 @@ use Rattle.numbers.specs.Numbers.{+0}
 use Rattle.norm.specs.Norm.{Norm, addSquares}
 use Rattle.norm.proofs.Unique.{unique}
 use Rattle.job_text.proofs.Growing.{grown-is}
-use Rattle.job_answer.specs.Printed.{Job, end, refusedOr, doneText, prints}
-use Rattle.job_answer.specs.Promises.{Writes}
+use Rattle.job_answer.specs.Printed.{Job, end, refusedOr, doneText, prints, Writes}
 
 -- by the first number
 one-by-number : (number : ℕ) (j : Job) (p q : Float) → (number ≡ 0 → Norm (end j .residual) p) → (number ≡ 0 → Norm (end j .residual) q)

@@ -13,7 +13,8 @@ use Rattle.refusals.specs.Refusals.{_or_, _when_, lengthsDiffer, refuseNodes, r
 use Rattle.refusals.specs.Calls.{Outcome, outcomeOf, byRefusal}
 use Rattle.refusals.specs.declared.Settings.{Settings}
 use Rattle.refusals.proofs.Laws.{AsStated}
-use Rattle.rules.specs.Rules.{State}
+use Rattle.rules.specs.Ways.{pushForward}
+use Rattle.rules.specs.Rules.{State, unwatched}
 use Rattle.calls.specs.declared.Solved.{Solved}
 use Rattle.calls.specs.Lent.{SolveLent, LinksLent, solveLengths, solving}
 use Rattle.calls.specs.Outcomes.{Given, givenLinks, ends, solvedWith}
@@ -22,8 +23,8 @@ use Rattle.forward_push.specs.Outcomes.{solveMultiSource}
 use Rattle.job_fields.specs.Fields.{wordsAt, floatsAt}
 use Rattle.job_fields.specs.Shape.{nodesIn, linksIn, sourcesIn, shaped}
 use Rattle.job_text.specs.Text.{refusedLine, Grown}
-use Rattle.job_answer.specs.Printed.{settingsIn, jobOf, jobIn, refusal, end, refusedOr, doneText, prints}
-use Rattle.job_answer.specs.Promises.{ListsLong, RowsLong, SolveLong, answerText, Writes, writes}
+use Rattle.job_answer.specs.Printed.{settingsIn, jobOf, jobIn, refusal, end, refusedOr, doneText, prints, Writes}
+use Rattle.job_answer.specs.Promises.{ListsLong, RowsLong, SolveLong, answerText, writes}
 
 -- a refusal
 pub text-refused : (number : ℕ) (done : List ℕ) {text text′ : List ℕ} {r : ℕ} → (number ≡ 0 → ⊥) → Grown 0 (refusedLine number) text r text′ → Grown 0 (refusedOr number done) text r text′
@@ -63,11 +64,16 @@ module _ (n : ℕ) (from to : List ℕ) (weight : List Float) (sources : List �
       (l .to-long, (l .weight-long, (r .starts-long, (r .columns-long, (r .weights-long, (v .estimate-long, (v .residual-long, (v .degrees-long, (v .priorities-long, (v .nodes-long, (v .queued-long, (v .visited-long, tt))))))))))))
 
   -- the solve's first number is the job's
-  number-is : (b : LinksLent SolveLent) → ListsLong (length from) to weight → RowsLong n (length from) (b .starts) (b .columns) (b .weights) → SolveLong n (b .rest)
+  pub number-is : (b : LinksLent SolveLent) → ListsLong (length from) to weight → RowsLong n (length from) (b .starts) (b .columns) (b .weights) → SolveLong n (b .rest)
       → givenLinks solving n from to weight b .tests (length sources) or refuseSettings s ≡ refusal (jobOf n from to weight sources s)
   unfolding givenLinks refusal refuseLengths lengthsDiffer
   number-is b l r v =
       ap (λ (x : ℕ). ((refuseNodes n or refuseLinks (length from) or refuseListed (length sources) or x) or refuseWeights weight) or refuseSettings s) (ap (λ (x : Bool). 3 when x) (stated-lengths ((length to, length from) ∷ (length weight, length from) ∷ (length (b .starts), n + 1) ∷ (length (b .columns), length from) ∷ (length (b .weights), length from) ∷ solveLengths n (b .rest)) (all-alike b l r v)))
+
+  -- and it ends in the job's state
+  pub end-is : (b : LinksLent SolveLent) → ends pushForward (givenLinks solving n from to weight b) s unwatched sources ≡ end (jobOf n from to weight sources s)
+  unfolding end ends givenLinks
+  end-is b = refl
 
   -- what is written of the solve's answer is the job's text
   pub solve-writes : (b : LinksLent SolveLent) → ListsLong (length from) to weight → RowsLong n (length from) (b .starts) (b .columns) (b .weights) → SolveLong n (b .rest)

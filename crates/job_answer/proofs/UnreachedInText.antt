@@ -7,10 +7,11 @@ use lib.ListN.{take, drop}
 use lib.Ieee.{nan}
 use Rattle.numbers.specs.Numbers.{+0}
 use Rattle.graph.specs.Rows.{Link, linksOf}
+use Rattle.rules.specs.Ways.{pushForward}
 use Rattle.rules.specs.Rules.{unwatched}
-use Rattle.rules.specs.Reach.{Reached, SameReached, Alike, Untouched, keptLinks}
+use Rattle.rules.specs.Reach.{Connected, SameConnected, Alike, Untouched, keptLinks}
 use Rattle.rules.proofs.Lengths.{Spans, solve-spans}
-use Rattle.rules.proofs.Unreached.{unreached, forward-alike}
+use Rattle.rules.proofs.Unreached.{untouched-links, alike-links}
 use Rattle.job_text.specs.Text.{nodeLine, nodeLines}
 use Rattle.job_text.proofs.NodeLines.{line-at}
 use Rattle.job_answer.specs.Printed.{Job, end, Prints}
@@ -29,12 +30,12 @@ module _ (j : Job) where
   end-spans = solve-spans _ _ _ _ _
 
   -- such a node is untouched
-  end-untouched : (v : ℕ) → v < j .nodes → ¬ Reached (keptLinks (j .nodes) (given-links j)) (j .nodes) (j .sources) v → Untouched (end j) v
+  end-untouched : (v : ℕ) → v < j .nodes → ¬ Connected pushForward (keptLinks (j .nodes) (given-links j)) (j .nodes) (j .sources) v → Untouched (end j) v
   unfolding end
-  end-untouched = unreached (j .given) unwatched (j .nodes) (j .sources) (given-links j)
+  end-untouched = untouched-links pushForward (j .given) unwatched (j .nodes) (j .sources) (given-links j)
 
   -- its line stands between those of the nodes before it and behind it
-  pub unreached-line : (v : ℕ) → v < j .nodes → ¬ Reached (keptLinks (j .nodes) (given-links j)) (j .nodes) (j .sources) v
+  pub unreached-line : (v : ℕ) → v < j .nodes → ¬ Connected pushForward (keptLinks (j .nodes) (given-links j)) (j .nodes) (j .sources) v
       → nodeLines 0 (end j .estimate) (end j .residual)
       ≡ nodeLines 0 (take v (end j .estimate)) (take v (end j .residual)) ++ (nodeLine v +0 +0 ++ nodeLines (suc v) (drop (suc v) (end j .estimate)) (drop (suc v) (end j .residual)))
   unreached-line v h off =
@@ -45,11 +46,11 @@ module _ (j : Job) where
 -- ---- two jobs
 
 module _ (j k : Job) (nodes : k .nodes ≡ j .nodes) (sources : k .sources ≡ j .sources) (settings : k .given ≡ j .given)
-    (same : SameReached (keptLinks (j .nodes) (given-links j)) (keptLinks (j .nodes) (given-links k)) (j .nodes) (j .sources)) where
+    (same : SameConnected pushForward (keptLinks (j .nodes) (given-links j)) (keptLinks (j .nodes) (given-links k)) (j .nodes) (j .sources)) where
   -- their solves end alike
   ends-alike : Alike (end j) (end k)
   unfolding end
-  ends-alike = rw (nodes, sources, settings) (forward-alike (j .given) unwatched (j .nodes) (j .sources) (given-links j) (given-links k) same)
+  ends-alike = rw (nodes, sources, settings) (alike-links pushForward (j .given) unwatched (j .nodes) (j .sources) (given-links j) (given-links k) same)
 
   -- where neither is refused, their texts are the same
   pub same-text : (number other : ℕ) {x y : List ℕ} → Prints number j x → number ≡ 0 → Prints other k y → other ≡ 0 → x ≡ y

@@ -1,4 +1,4 @@
--- What a job asks for, by its bytes, and what it prints. Assumes nothing.
+-- What a job asks for, by its bytes, what it prints, and where the text stands. Assumes nothing.
 use Prim.Native.Nat.{ℕ, zero, suc, _+_, _*_}
 use mathlib.Core.Bool.{not}
 use mathlib.Core.List.{List, [], _++_}
@@ -15,7 +15,7 @@ use Rattle.rules.specs.Rules.{State, unwatched, solve}
 use Rattle.rules.specs.Answers.{visitedCount}
 use Rattle.job_fields.specs.Fields.{wordAt, floatAt, wordsAt, floatsAt}
 use Rattle.job_fields.specs.Shape.{nodesIn, linksIn, sourcesIn, shaped}
-use Rattle.job_text.specs.Text.{refusedLine, doneLine, nodeLines}
+use Rattle.job_text.specs.Text.{refusedLine, doneLine, nodeLines, Grown}
 
 -- ---- what is asked for
 
@@ -51,7 +51,9 @@ jobIn bytes =
 
 -- ---- what is printed
 
--- the first number of the tests of the solve, to which buffers of the stated lengths are lent
+-- The first number of the tests of the solve, to which buffers of the stated lengths are lent. This and `end` are a second form of
+-- what the call's own outcome (`solveMultiSource` of `givenLinks`) goes by: that one speaks of the lent buffers, of which a job says nothing. `number-is`
+-- and `end-is` (job_answer/proofs/Texts.antt) tie them: the call's first number and end are these, whatever buffers of those lengths are lent.
 unfoldable pub refusal : Job → ℕ
 refusal j = linkTests (j .nodes) (length (j .from)) (length (j .sources)) [] (j .weight) or refuseSettings (j .given)
 
@@ -77,3 +79,9 @@ pub record Prints (number : ℕ) (j : Job) (text : List ℕ) : Type 0 where
 -- the text for bytes: a wrong shape is 8, before the rest
 abbrev pub prints : List ℕ → List ℕ → Type 0
 prints bytes = Prints (8 when not (shaped bytes) or refusal (jobIn bytes)) (jobIn bytes)
+
+-- a text of which P holds stands at the start of the buffer, is r long, and the bytes behind it are as they were
+pub record Writes (P : List ℕ → Type 0) (text : List ℕ) (r : ℕ) (text′ : List ℕ) : Type 0 where
+  pub part : List ℕ
+  pub printed : P part
+  pub grown : Grown 0 part text r text′

@@ -1,3 +1,4 @@
+-- Inner: no public promise cites it.
 -- What the functions of `job_answer` ask of what is lent to them, and what they promise of the text. Assumes nothing.
 use Prim.Native.Nat.{ℕ, _+_, _≤_}
 use mathlib.Core.List.{List, _++_}
@@ -6,8 +7,8 @@ use lib.ListN.{length}
 use lib.Ieee.{Float}
 use Rattle.calls.specs.declared.Solved.{Solved}
 use Rattle.calls.specs.Lent.{words, SolveLent}
-use Rattle.job_text.specs.Text.{doneLine, nodeLines, Grown}
-use Rattle.job_answer.specs.Printed.{Job, refusal, refusedOr, Prints}
+use Rattle.job_text.specs.Text.{doneLine, nodeLines}
+use Rattle.job_answer.specs.Printed.{Job, refusal, refusedOr, Prints, Writes}
 
 -- there is room for the text of any job
 abbrev pub Roomy : List ℕ → Type 0
@@ -37,12 +38,6 @@ pub record SolveLong (n : ℕ) (b : SolveLent) : Type 0 where
 -- the text of an answer and two vectors
 abbrev pub answerText : Solved → List Float → List Float → List ℕ
 answerText r estimate residual = refusedOr (r .refusal) (doneLine (r .«push_count») (r .«nodes_visited») (r .«residual_norm») ++ nodeLines 0 estimate residual)
-
--- a text of which P holds stands at the start of the buffer, is r long, and the bytes behind it are as they were
-pub record Writes (P : List ℕ → Type 0) (text : List ℕ) (r : ℕ) (text′ : List ℕ) : Type 0 where
-  pub part : List ℕ
-  pub printed : P part
-  pub grown : Grown 0 part text r text′
 
 -- the text of a job that has its shape
 abbrev pub writes : Job → List ℕ → ℕ → List ℕ → Type 0

@@ -7,8 +7,8 @@ ghost use Rattle.calls.specs.Lent.{solveLent};
 ghost use Rattle.io.specs.Counts.{Counts};
 ghost use Rattle.job_fields.specs.Shape.{linksIn, sourcesIn, shaped};
 ghost use Rattle.job_text.specs.Text.{Grown};
-ghost use Rattle.job_answer.specs.Printed.{settingsIn, jobOf, jobIn, prints};
-ghost use Rattle.job_answer.specs.Promises.{Roomy, ListsLong, RowsLong, SolveLong, answerText, Writes, writes};
+ghost use Rattle.job_answer.specs.Printed.{settingsIn, jobOf, jobIn, prints, Writes};
+ghost use Rattle.job_answer.specs.Promises.{Roomy, ListsLong, RowsLong, SolveLong, answerText, writes};
 use calls::Solved;
 use refusals::Settings;
 

@@ -1,3 +1,4 @@
+-- Inner: no public promise cites it.
 -- What the integer functions that work out a square root ensure of their results. Assumes nothing.
 use mathlib.Core.Path.{_≡_}
 use Prim.Native.Nat.{ℕ, _+_, _-_, _*_, _/_, _^_, _≤_, _<_}
@@ -28,7 +29,7 @@ pub record Normal (s h t g : ℕ) : Type 0 where
   pub less : g ≤ h
   pub value : t * 2 ^ g ≡ s * 2 ^ h
 
--- t * 4 ^ g is s * 2 ^ h, and t has 53 digits or is even and has 54
+-- t * 4 ^ g is s * 2 ^ h, and t has 53 or 54 digits and is at most 2 ^ 54 - 2
 pub record Even (s h t g : ℕ) : Type 0 where
   pub low : 2 ^ 52 ≤ t
   pub high : t + 2 ≤ 2 ^ 54

@@ -10,22 +10,20 @@ use lib.ListN.{length, getD, drop}
 use lib.Seq.{drop-cons}
 use lib.Ieee.{Float, nan}
 use Rattle.graph.specs.Rows.{entry, entriesOf}
-use Rattle.queue.specs.declared.WorkQueue.{WorkQueue}
 use Rattle.rules.specs.Ways.{Way, shareOf}
 use Rattle.rules.specs.Rules.{State, at, each, gain, offer, pass}
-use Rattle.pushes.specs.States.{progress, stateIn}
+use Rattle.pushes.specs.States.{Waits, stateWith}
 use Rattle.pushes.specs.Buffers.{Lent}
 use Rattle.pushes.specs.Meant.{Along}
 
 -- what holds at the entry i
-pub record Spreading (backward : Bool) (rest degree : Float) (columns : List ℕ) (weights degrees out-degrees : List Float)
-    (residual₀ ps₀ : List Float) (ns₀ ws₀ : List ℕ) (q₀ : WorkQueue) (residual ps : List Float) (ns ws : List ℕ) (q : WorkQueue) (i : ℕ) : Type 0 where
+pub record Spreading (backward : Bool) (rest degree : Float) (columns : List ℕ) (weights degrees out-degrees : List Float) (w₀ w : Waits) (i : ℕ) : Type 0 where
   pub up-to : i ≤ length columns
-  pub lent : Lent (length degrees) q residual ps ns ws
-  pub same-words : length ws ≡ length ws₀
+  pub lent : Lent (length degrees) w
+  pub same-words : length (w .queued) ≡ length (w₀ .queued)
   pub left : (way : Way) → Along backward degrees out-degrees way → (estimate : List Float) (pushes : ℕ) (visited : List ℕ)
-      → each (pass way rest degree) (entriesOf (drop i columns) (drop i weights)) (stateIn (length degrees) estimate residual (progress q pushes) ps ns visited)
-      ≡ each (pass way rest degree) (entriesOf columns weights) (stateIn (length degrees) estimate residual₀ (progress q₀ pushes) ps₀ ns₀ visited)
+      → each (pass way rest degree) (entriesOf (drop i columns) (drop i weights)) (stateWith (length degrees) estimate pushes visited w)
+      ≡ each (pass way rest degree) (entriesOf columns weights) (stateWith (length degrees) estimate pushes visited w₀)
 
 -- the first of the entries that are left
 pub one-passes : (backward : Bool) (rest degree : Float) (columns : List ℕ) (weights degrees out-degrees : List Float) (way : Way) → Along backward degrees out-degrees way

@@ -13,7 +13,7 @@ use Rattle.graph.specs.Store.{chosen, Rowed}
 use Rattle.graph.proofs.Read.{start-le, start-inside, row-degree}
 use Rattle.rules.specs.Ways.{Way, wayOf, degreeOf}
 use Rattle.rules.specs.Rules.{at}
-use Rattle.pushes.specs.Buffers.{Rows}
+use Rattle.pushes.specs.Buffers.{Lists, columnsOf, weightsOf, Rows}
 use Rattle.pushes.specs.Meant.{Weighs, Stands}
 
 -- one of two lists that are as long
@@ -46,37 +46,34 @@ module _ {n : ℕ} {starts columns : List ℕ} {weights : List Float} (z : Rowed
       let j : s + k < t = omega (arith, rw (e, length-slice s t columns (rw add-one (start-inside z (suc v) h))) at l) in
       rw (e, getD-drop, getD-take) (z .inside (s + k) (omega arith))
 
-module _ {n : ℕ} {backward : Bool} {starts columns columns′ : List ℕ} {weights weights′ degrees out-degrees : List Float}
-    (r : Rows n backward starts columns columns′ weights weights′ degrees out-degrees) where
-  module _ (v : ℕ) (h : v < n) (s e : ℕ) (p : s ≡ getD starts v 0) (q : e ≡ getD starts (v + 1) 0) where
+module _ {n : ℕ} {backward : Bool} {l : Lists} (r : Rows n backward l) where
+  module _ (v : ℕ) (h : v < n) (s e : ℕ) (p : s ≡ getD (l .starts) v 0) (q : e ≡ getD (l .starts) (v + 1) 0) where
     -- the row of v is a part of either of two lists that are as long as the columns
-    part-fits : {A : Type 0} (x y : List A) → length y ≡ length x → length (chosen backward x y) ≡ length (chosen backward columns columns′)
+    part-fits : {A : Type 0} (x y : List A) → length y ≡ length x → length (chosen backward x y) ≡ length (columnsOf backward l)
         → (s ≤ e) × (e ≤ length x) × (e ≤ length y)
     part-fits x y alike paired =
-        let k : e ≤ length (chosen backward columns columns′) = rw (q, add-one) (start-inside (r .rowed) (suc v) h) in
-        let l : e ≤ length x = omega (arith, paired, chosen-long backward x y alike) in
-        (rw (p, q, add-one) (r .rowed .rises v h), l, omega arith)
+        let k : e ≤ length (columnsOf backward l) = rw (q, add-one) (start-inside (r .rowed) (suc v) h) in
+        let m : e ≤ length x = omega (arith, paired, chosen-long backward x y alike) in
+        (rw (p, q, add-one) (r .rowed .rises v h), m, omega arith)
 
     -- of the columns
-    pub columns-fit : (s ≤ e) × (e ≤ length columns) × (e ≤ length columns′)
-    columns-fit = part-fits columns columns′ (r .columns-alike) refl
+    pub columns-fit : (s ≤ e) × (e ≤ length (l .columns)) × (e ≤ length (l .reverse-columns))
+    columns-fit = part-fits (l .columns) (l .reverse-columns) (r .columns-alike) refl
 
     -- of the weights
-    pub weights-fit : (s ≤ e) × (e ≤ length weights) × (e ≤ length weights′)
-    weights-fit = part-fits weights weights′ (r .weights-alike) (r .rowed .paired)
+    pub weights-fit : (s ≤ e) × (e ≤ length (l .weights)) × (e ≤ length (l .reverse-weights))
+    weights-fit = part-fits (l .weights) (l .reverse-weights) (r .weights-alike) (r .rowed .paired)
 
   -- a way with the rows has their degrees
-  pub weighs : (way : Way) → Stands n backward starts columns columns′ weights weights′ out-degrees way → (v : ℕ) → v < n → Weighs degrees v way
+  pub weighs : (way : Way) → Stands n backward l way → (v : ℕ) → v < n → Weighs (l .degrees) v way
   unfolding degreeOf
-  weighs way s v h = ap (λ (l : List Float). at l v) (r .degrees-are) ∙ row-degree (r .rowed) v h ∙ ap degree (sym (s .rows v h))
+  weighs way s v h = ap (λ (ds : List Float). at ds v) (r .degrees-are) ∙ row-degree (r .rowed) v h ∙ ap degree (sym (s .rows v h))
 
 -- a way that the buffers stand for
-pub wayIn : Bool → List ℕ → List ℕ → List ℕ → List Float → List Float → List Float → Way
-wayIn backward starts columns columns′ weights weights′ out-degrees =
-    wayOf backward (λ v. rowIn (getD starts v 0) (getD starts (suc v) 0) (chosen backward columns columns′) (chosen backward weights weights′)) (at out-degrees)
+pub wayIn : Bool → Lists → Way
+wayIn backward l = wayOf backward (λ v. rowIn (getD (l .starts) v 0) (getD (l .starts) (suc v) 0) (columnsOf backward l) (weightsOf backward l)) (at (l .out-degrees))
 
 -- and it is one of those that are meant, so that what is promised of all of them is said of one
-pub stands : (n : ℕ) (backward : Bool) (starts columns columns′ : List ℕ) (weights weights′ out-degrees : List Float)
-    → Stands n backward starts columns columns′ weights weights′ out-degrees (wayIn backward starts columns columns′ weights weights′ out-degrees)
+pub stands : (n : ℕ) (backward : Bool) (l : Lists) → Stands n backward l (wayIn backward l)
 unfolding wayIn wayOf
-stands n backward starts columns columns′ weights weights′ out-degrees = record { rows = λ v h. refl; shares = λ rest degree x h. refl }
+stands n backward l = record { rows = λ v h. refl; shares = λ rest degree x h. refl }

@@ -1,3 +1,4 @@
+-- Inner: no public promise cites it.
 -- The ways that a promise speaks of: those whose rows, degrees and shares the buffers show. Assumes nothing.
 use Prim.Native.Nat.{ℕ, suc, _<_}
 use mathlib.Core.Bool.{Bool}
@@ -6,9 +7,9 @@ use mathlib.Core.Path.{_≡_}
 use lib.ListN.{length, getD}
 use lib.Ieee.{Float}
 use Rattle.graph.specs.Rows.{Entry, rowIn}
-use Rattle.graph.specs.Store.{chosen}
 use Rattle.rules.specs.Ways.{Way, shareOf, degreeOf}
 use Rattle.rules.specs.Rules.{at}
+use Rattle.pushes.specs.Buffers.{Lists, columnsOf, weightsOf}
 
 -- every way
 abbrev pub Every : Way → Type 0
@@ -32,6 +33,6 @@ pub record Along (backward : Bool) (degrees out-degrees : List Float) (way : Way
   pub shares : Shares (length degrees) backward out-degrees way
 
 -- those with the rows of a direction, and its shares
-pub record Stands (n : ℕ) (backward : Bool) (starts columns reverse-columns : List ℕ) (weights reverse-weights out-degrees : List Float) (way : Way) : Type 0 where
-  pub rows : (v : ℕ) → v < n → way .row v ≡ rowIn (getD starts v 0) (getD starts (suc v) 0) (chosen backward columns reverse-columns) (chosen backward weights reverse-weights)
-  pub shares : Shares n backward out-degrees way
+pub record Stands (n : ℕ) (backward : Bool) (l : Lists) (way : Way) : Type 0 where
+  pub rows : (v : ℕ) → v < n → way .row v ≡ rowIn (getD (l .starts) v 0) (getD (l .starts) (suc v) 0) (columnsOf backward l) (weightsOf backward l)
+  pub shares : Shares n backward (l .out-degrees) way

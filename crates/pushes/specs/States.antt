@@ -1,8 +1,11 @@
+-- Inner: no public promise cites it.
 -- What the buffers of a solve stand for: the state of the rules. Assumes nothing.
 use Prim.Native.Nat.{ℕ, _≤_}
 use mathlib.Core.Bool.{Bool, false}
 use mathlib.Core.List.{List}
 use mathlib.Core.Path.{_≡_}
+use denote.Ref.{RefT, now}
+use denote.Triple.Both.{Both}
 use lib.Ieee.{Float}
 use Rattle.numbers.specs.Tables.{tabulate}
 use Rattle.marks.specs.Marks.{marked}
@@ -38,3 +41,69 @@ stateIn n estimate residual p priorities nodes visited =
       pushes = p .pushes;
       visited = marksIn n visited;
     }
+
+-- ---- what a run holds
+
+-- its progress, and what is in the lent buffers
+pub record Held : Type 0 where
+  pub p : Progress
+  pub estimate : List Float
+  pub residual : List Float
+  pub priorities : List Float
+  pub nodes : List ℕ
+  pub queued : List ℕ
+  pub visited : List ℕ
+
+-- by its parts
+abbrev pub held : Progress → List Float → List Float → List Float → List ℕ → List ℕ → List ℕ → Held
+held p e r ps ns qs vs = record { p = p; estimate = e; residual = r; priorities = ps; nodes = ns; queued = qs; visited = vs }
+
+-- the state that it stands for
+unfoldable pub stateOf : ℕ → Held → State
+stateOf n h = stateIn n (h .estimate) (h .residual) (h .p) (h .priorities) (h .nodes) (h .visited)
+
+-- a slice that a call is lent, as its `ensures` names it
+abbrev pub Slice : Type 0 → Type 0
+Slice A = Both (RefT (List A)) (RefT (List A))
+
+-- what the slices of a call hold: in its `requires`, and in its `ensures` before it and after it
+abbrev pub heldIn : Progress → RefT (List Float) → RefT (List Float) → RefT (List Float) → RefT (List ℕ) → RefT (List ℕ) → RefT (List ℕ) → Held
+heldIn p e r ps ns qs vs = held p (now e) (now r) (now ps) (now ns) (now qs) (now vs)
+
+abbrev pub heldBefore : Progress → Slice Float → Slice Float → Slice Float → Slice ℕ → Slice ℕ → Slice ℕ → Held
+heldBefore p e r ps ns qs vs = heldIn p (e .entry) (r .entry) (ps .entry) (ns .entry) (qs .entry) (vs .entry)
+
+abbrev pub heldAfter : Progress → Slice Float → Slice Float → Slice Float → Slice ℕ → Slice ℕ → Slice ℕ → Held
+heldAfter p e r ps ns qs vs = heldIn p (e .exit) (r .exit) (ps .exit) (ns .exit) (qs .exit) (vs .exit)
+
+-- ---- the part of it that the queue goes by
+
+-- the queue, its entries, the marks of who waits, and the residual
+pub record Waits : Type 0 where
+  pub queue : WorkQueue
+  pub residual : List Float
+  pub priorities : List Float
+  pub nodes : List ℕ
+  pub queued : List ℕ
+
+-- by its parts
+abbrev pub waits : WorkQueue → List Float → List Float → List ℕ → List ℕ → Waits
+waits q r ps ns qs = record { queue = q; residual = r; priorities = ps; nodes = ns; queued = qs }
+
+-- of what a run holds
+abbrev pub waitsOf : Held → Waits
+waitsOf h = waits (h .p .queue) (h .residual) (h .priorities) (h .nodes) (h .queued)
+
+-- the state that it stands for, with the rest
+abbrev pub stateWith : ℕ → List Float → ℕ → List ℕ → Waits → State
+stateWith n estimate pushes visited w = stateIn n estimate (w .residual) (progress (w .queue) pushes) (w .priorities) (w .nodes) visited
+
+-- what the slices of a call hold: in its `requires`, and in its `ensures` before it and after it
+abbrev pub waitsIn : WorkQueue → RefT (List Float) → RefT (List Float) → RefT (List ℕ) → RefT (List ℕ) → Waits
+waitsIn q r ps ns qs = waits q (now r) (now ps) (now ns) (now qs)
+
+abbrev pub waitsBefore : WorkQueue → Slice Float → Slice Float → Slice ℕ → Slice ℕ → Waits
+waitsBefore q r ps ns qs = waitsIn q (r .entry) (ps .entry) (ns .entry) (qs .entry)
+
+abbrev pub waitsAfter : WorkQueue → Slice Float → Slice Float → Slice ℕ → Slice ℕ → Waits
+waitsAfter q r ps ns qs = waitsIn q (r .exit) (ps .exit) (ns .exit) (qs .exit)

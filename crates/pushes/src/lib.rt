@@ -7,7 +7,8 @@ ghost use Rattle.graph.specs.Rows.{entriesOf};
 ghost use Rattle.rules.specs.Ways.{shareOf};
 ghost use Rattle.rules.specs.Ways as Ways;
 ghost use Rattle.rules.specs.Rules.{each, gain, offer, pass, handOut, push};
-ghost use Rattle.pushes.specs.Buffers.{Seated, Row, Rows};
+ghost use Rattle.pushes.specs.States.{waitsIn, waitsBefore, waitsAfter};
+ghost use Rattle.pushes.specs.Buffers.{listsIn, lists, Seated, Row, Rows};
 ghost use Rattle.pushes.specs.Meant.{Weighs, Along, Stands};
 ghost use Rattle.pushes.specs.Promises.{Moved, Pushed, Absorbed};
 use queue::WorkQueue;
@@ -36,7 +37,7 @@ fn share(backward: bool, rest: f64, degree: f64, weight: f64, out_degree: f64) -
     }
 }
 
-// The node v is offered at its residual over e. One that waits stays as it is, so for it neither is looked up.
+// The node v is offered at its residual over e. If it waits already, it stays as it is, and neither is looked up.
 pub fn offer_node(
     q: WorkQueue,
     v: u32,
@@ -46,12 +47,11 @@ pub fn offer_node(
     nodes: &mut [u32],
     queued: &mut [u64],
 ) -> WorkQueue
-    requires { ⌜ Seated (length (now degrees)) v q (now residual) (now priorities) (now nodes) (now queued) ⌝ }
+    requires { ⌜ Seated (length (now degrees)) v (waitsIn q residual priorities nodes queued) ⌝ }
     ensures { λ r. ⌜ Moved (Weighs (now (degrees .entry)) v) (λ way. offer way v) (length (now (degrees .entry)))
-        (now (residual .entry)) q (now (priorities .entry)) (now (nodes .entry))
-        (now (residual .entry)) r (now (priorities .exit)) (now (nodes .exit)) (now (queued .exit)) ⌝ }
+        (waitsBefore q residual priorities nodes queued) (waitsAfter r residual priorities nodes queued) ⌝ }
 {
-    if marks::is_marked(queued, v) {
+    if queue::waits(queued, v) {
         return q;
     }
     let at = v as usize;
@@ -70,10 +70,9 @@ fn pass_on(
     nodes: &mut [u32],
     queued: &mut [u64],
 ) -> WorkQueue
-    requires { ⌜ Seated (length (now degrees)) v q (now residual) (now priorities) (now nodes) (now queued) ⌝ }
+    requires { ⌜ Seated (length (now degrees)) v (waitsIn q residual priorities nodes queued) ⌝ }
     ensures { λ r. ⌜ Moved (Weighs (now (degrees .entry)) v) (λ way s. offer way v (gain x v s)) (length (now (degrees .entry)))
-        (now (residual .entry)) q (now (priorities .entry)) (now (nodes .entry))
-        (now (residual .exit)) r (now (priorities .exit)) (now (nodes .exit)) (now (queued .exit)) ⌝ }
+        (waitsBefore q residual priorities nodes queued) (waitsAfter r residual priorities nodes queued) ⌝ }
 {
     let at = v as usize;
     residual[at] = residual[at] + x;
@@ -96,11 +95,10 @@ fn spread(
     nodes: &mut [u32],
     queued: &mut [u64],
 ) -> WorkQueue
-    requires { ⌜ Row (length (now degrees)) (now columns) (now weights) (now «out_degrees») q (now residual) (now priorities) (now nodes) (now queued) ⌝ }
+    requires { ⌜ Row (length (now degrees)) (now columns) (now weights) (now «out_degrees») (waitsIn q residual priorities nodes queued) ⌝ }
     ensures { λ r. ⌜ Moved (Along backward (now (degrees .entry)) (now («out_degrees» .entry)))
         (λ way. each (pass way rest degree) (entriesOf (now (columns .entry)) (now (weights .entry)))) (length (now (degrees .entry)))
-        (now (residual .entry)) q (now (priorities .entry)) (now (nodes .entry))
-        (now (residual .exit)) r (now (priorities .exit)) (now (nodes .exit)) (now (queued .exit)) ⌝ }
+        (waitsBefore q residual priorities nodes queued) (waitsAfter r residual priorities nodes queued) ⌝ }
 {
     let mut w = q;
     let mut i = 0;
@@ -133,12 +131,11 @@ fn hand_out<'a>(
     nodes: &mut [u32],
     queued: &mut [u64],
 ) -> WorkQueue
-    requires { ⌜ Rows (length (now degrees)) backward (now starts) (now columns) (now «reverse_columns») (now weights) (now «reverse_weights») (now degrees) (now «out_degrees»)
-        × Seated (length (now degrees)) v q (now residual) (now priorities) (now nodes) (now queued) ⌝ }
-    ensures { λ r. ⌜ Moved (Stands (length (now (degrees .entry))) backward (now (starts .entry)) (now (columns .entry)) (now («reverse_columns» .entry))
-        (now (weights .entry)) (now («reverse_weights» .entry)) (now («out_degrees» .entry))) (λ way. handOut way rest v) (length (now (degrees .entry)))
-        (now (residual .entry)) q (now (priorities .entry)) (now (nodes .entry))
-        (now (residual .exit)) r (now (priorities .exit)) (now (nodes .exit)) (now (queued .exit)) ⌝ }
+    requires { ⌜ Rows (length (now degrees)) backward (listsIn starts columns «reverse_columns» weights «reverse_weights» degrees «out_degrees»)
+        × Seated (length (now degrees)) v (waitsIn q residual priorities nodes queued) ⌝ }
+    ensures { λ r. ⌜ Moved (Stands (length (now (degrees .entry))) backward (lists starts columns «reverse_columns» weights «reverse_weights» degrees «out_degrees»))
+        (λ way. handOut way rest v) (length (now (degrees .entry)))
+        (waitsBefore q residual priorities nodes queued) (waitsAfter r residual priorities nodes queued) ⌝ }
 {
     let at = v as usize;
     let degree = degrees[at];
@@ -195,12 +192,11 @@ pub fn push_node<'a>(
     nodes: &mut [u32],
     queued: &mut [u64],
 ) -> WorkQueue
-    requires { ⌜ Rows (length (now degrees)) backward (now starts) (now columns) (now «reverse_columns») (now weights) (now «reverse_weights») (now degrees) (now «out_degrees»)
-        × Seated (length (now degrees)) v q (now residual) (now priorities) (now nodes) (now queued) × (length (now estimate) ≡ length (now degrees)) ⌝ }
-    ensures { λ r. ⌜ Pushed (Stands (length (now (degrees .entry))) backward (now (starts .entry)) (now (columns .entry)) (now («reverse_columns» .entry))
-        (now (weights .entry)) (now («reverse_weights» .entry)) (now («out_degrees» .entry))) (λ way. push way alpha v) (length (now (degrees .entry)))
-        (now (estimate .entry)) (now (residual .entry)) q (now (priorities .entry)) (now (nodes .entry))
-        (now (estimate .exit)) (now (residual .exit)) r (now (priorities .exit)) (now (nodes .exit)) (now (queued .exit)) ⌝ }
+    requires { ⌜ Rows (length (now degrees)) backward (listsIn starts columns «reverse_columns» weights «reverse_weights» degrees «out_degrees»)
+        × Seated (length (now degrees)) v (waitsIn q residual priorities nodes queued) × (length (now estimate) ≡ length (now degrees)) ⌝ }
+    ensures { λ r. ⌜ Pushed (Stands (length (now (degrees .entry))) backward (lists starts columns «reverse_columns» weights «reverse_weights» degrees «out_degrees»))
+        (λ way. push way alpha v) (length (now (degrees .entry)))
+        (now (estimate .entry)) (waitsBefore q residual priorities nodes queued) (now (estimate .exit)) (waitsAfter r residual priorities nodes queued) ⌝ }
 {
     let at = v as usize;
     let mass = residual[at];

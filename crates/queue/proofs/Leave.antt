@@ -113,5 +113,6 @@ module _ (size : ℕ) (ps : List Float) (ns ws : List ℕ) (H : Heap size ps ns 
         record {
           priority = first .priority;
           was-next = first-next;
+          inside = first-inside;
           left = settles H (first .node) out d ordered-left (last .before) rest-fills (omega (arith, H .fits)) same-ps same-ns w;
         }

@@ -1,10 +1,10 @@
--- The laws that the proofs of `queue` share. `Taken`, `Settle` and `Enter` are also for whoever builds on the queue.
-pub mod Taken
+-- The laws that the proofs of `queue` share. None is for whoever builds on the queue: the promises say what that needs.
+mod Taken
 mod Offer
 mod Filled
-pub mod Settle
+mod Settle
 mod Best
-pub mod Enter
+mod Enter
 mod Leave
 mod Logic
 mod Local

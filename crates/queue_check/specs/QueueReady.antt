@@ -1,3 +1,4 @@
+-- Inner: no public promise cites it.
 -- What holds of the queue's buffers between two operations: they are a heap, with a place for each of 65,536 nodes.
 use mathlib.Core.Path.{_≡_}
 use mathlib.Core.List.{List}

@@ -3,11 +3,12 @@ use Prim.Native.Nat.{ℕ}
 use mathlib.Core.Bool.{true, false}
 use mathlib.Core.List.{List, [], _∷_, map}
 use mathlib.Core.Path.{_≡_, refl}
+use lib.ListN.{length}
 use lib.Ieee.{Float, nan, inf, ofBits, lt, le}
 use Rattle.numbers.specs.Numbers.{f64, +0, one}
 use Rattle.numbers.specs.Tables.{any}
 use Rattle.refusals.specs.declared.Settings.{Settings}
-use Rattle.refusals.specs.Refusals.{_or_, _when_, lengthsDiffer, falls, refuseNodes, refuseLinks, refuseListed, refuseLengths, refuseRows, refuseWeights, refuseAlpha, refuseSettings, refusePrecision, linkTests, heaviest}
+use Rattle.refusals.specs.Refusals.{_or_, _when_, lengthsDiffer, falls, refuseNodes, refuseLinks, refuseListed, refuseLengths, refuseRows, refuseWeights, refuseAlpha, refuseSettings, refusePrecision, linkTests, rowTests, heaviest}
 
 -- two numbers that the edges share
 -0 : Float
@@ -52,9 +53,10 @@ weight-edge : map (λ (w : Float). refuseWeights (w ∷ []))
 unfolding refuseWeights any _when_ le ofBits -0 -1
 weight-edge = refl
 
--- alpha 0, -0 and 1 pass, 2 gives 6
-alpha-edge : map (λ (a : Float). refuseSettings (set a +0 +0 0)) (+0 ∷ -0 ∷ one ∷ f64 0x4000_0000_0000_0000 ∷ []) ≡ 0 ∷ 0 ∷ 0 ∷ 6 ∷ []
-unfolding refuseSettings refuseAlpha set _or_ _when_ le lt ofBits -0
+-- alpha 0, -0 and 1 pass; the number next above 1, the least below zero, -1 and NaN give 6
+alpha-edge : map (λ (a : Float). refuseSettings (set a +0 +0 0))
+    (+0 ∷ -0 ∷ one ∷ f64 0x3ff0_0000_0000_0001 ∷ f64 0x8000_0000_0000_0001 ∷ -1 ∷ nan ∷ []) ≡ 0 ∷ 0 ∷ 0 ∷ 6 ∷ 6 ∷ 6 ∷ 6 ∷ []
+unfolding refuseSettings refuseAlpha set _or_ _when_ le lt ofBits -0 -1
 alpha-edge = refl
 
 -- epsilon 0 and -0 pass; -1, NaN and infinity give 6
@@ -77,7 +79,44 @@ precision-edge : map refusePrecision (+0 ∷ -0 ∷ -1 ∷ nan ∷ inf false ∷
 unfolding refusePrecision _when_ le lt ofBits -0 -1
 precision-edge = refl
 
--- the first number wins: a wrong length before a wrong weight
-order-edge : linkTests 2 1 0 ((1, 1) ∷ (2, 3) ∷ []) (nan ∷ []) ≡ 3
-unfolding refuseNodes refuseLinks refuseListed refuseLengths refuseWeights any lengthsDiffer _or_ _when_ le
-order-edge = refl
+-- ---- the first number wins: everything that a call tests is wrong, and is set right one by one
+
+-- a call with links: its nodes, links, sources, the length of a list that should be 1, a weight, alpha and a precision
+tested-links : ℕ → ℕ → ℕ → ℕ → Float → Float → Float → ℕ
+tested-links n m s k weight alpha precision = linkTests n m s ((k, 1) ∷ []) (weight ∷ []) or refuseSettings (set alpha +0 +0 0) or refusePrecision precision
+
+links-in-order : tested-links 65537 1048577 65537 0 nan nan nan
+    ∷ tested-links 65536 1048577 65537 0 nan nan nan
+    ∷ tested-links 65536 1048576 65537 0 nan nan nan
+    ∷ tested-links 65536 1048576 65536 0 nan nan nan
+    ∷ tested-links 65536 1048576 65536 1 nan nan nan
+    ∷ tested-links 65536 1048576 65536 1 one nan nan
+    ∷ tested-links 65536 1048576 65536 1 one one nan
+    ∷ tested-links 65536 1048576 65536 1 one one one
+    ∷ []
+    ≡ 1 ∷ 2 ∷ 2 ∷ 3 ∷ 5 ∷ 6 ∷ 7 ∷ 0 ∷ []
+unfolding tested-links set refuseNodes refuseLinks refuseListed refuseLengths refuseWeights refuseAlpha refuseSettings refusePrecision any lengthsDiffer _or_ _when_ le lt ofBits
+links-in-order = refl
+
+-- a call with rows: its nodes, sources, the length of a list that should be 1, its columns, where node 0 has one link, a weight, alpha and a precision
+tested-rows : ℕ → ℕ → ℕ → List ℕ → Float → Float → Float → ℕ
+tested-rows n s k columns weight alpha precision =
+    rowTests n s ((k, 1) ∷ []) (0 ∷ 1 ∷ []) columns (weight ∷ []) or refuseSettings (set alpha +0 +0 0) or refusePrecision precision
+
+rows-in-order : tested-rows 65537 65537 0 (1 ∷ []) nan nan nan
+    ∷ tested-rows 1 65537 0 (1 ∷ []) nan nan nan
+    ∷ tested-rows 1 65536 0 (1 ∷ []) nan nan nan
+    ∷ tested-rows 1 65536 1 (1 ∷ []) nan nan nan
+    ∷ tested-rows 1 65536 1 (0 ∷ []) nan nan nan
+    ∷ tested-rows 1 65536 1 (0 ∷ []) one nan nan
+    ∷ tested-rows 1 65536 1 (0 ∷ []) one one nan
+    ∷ tested-rows 1 65536 1 (0 ∷ []) one one one
+    ∷ []
+    ≡ 1 ∷ 2 ∷ 3 ∷ 4 ∷ 5 ∷ 6 ∷ 7 ∷ 0 ∷ []
+unfolding tested-rows set refuseNodes refuseLinks refuseListed refuseLengths refuseRows falls refuseWeights refuseAlpha refuseSettings refusePrecision any lengthsDiffer _or_ _when_ le lt ofBits
+rows-in-order = refl
+
+-- with rows the links are counted by the columns, after the nodes and before the lengths
+too-many-columns : (columns : List ℕ) → length columns ≡ 1048577 → tested-rows 65537 0 0 columns nan nan nan ∷ tested-rows 1 0 0 columns nan nan nan ∷ [] ≡ 1 ∷ 2 ∷ []
+unfolding tested-rows refuseNodes refuseLinks _or_ _when_
+too-many-columns columns e = rw e refl

@@ -1,4 +1,4 @@
--- Whose turn it is: one who waits, while a push is left. Who is next in a queue waits in it, and nobody is where nobody waits. Assumes nothing.
+-- Whose turn it is: one who waits, while a push is left. Where nobody waits, nobody is next. Assumes nothing.
 use Prim.Native.Nat.{ℕ, suc, _+_, _<_}
 use native.Mathlib.Nat.{zero-add, lt-of-not-le}
 use native.Mathlib.Omega.{arith}
@@ -11,8 +11,8 @@ use Rattle.numbers.proofs.Choice.{decided, either}
 use Rattle.numbers.proofs.Tests.{both}
 use Rattle.refusals.specs.declared.Settings.{Settings}
 use Rattle.queue.specs.Waiting.{Slot, out, waits, taken, Best, nobody, best, better, bestFrom, next}
-use Rattle.queue.proofs.Taken.{out-waits}
-use Rattle.rules.specs.Rules.{State, Watch, due}
+use Rattle.rules.proofs.Slots.{out-waits}
+use Rattle.rules.specs.Rules.{State, Watch, goesOn, due}
 
 -- what is said of the best, where there is one
 abbrev Of : (ℕ → Float → Type 0) → Best → Type 0
@@ -35,21 +35,9 @@ best-of Q b u (waits q ∷ slots) h g =
     best-of Q (better b u q) (suc u) slots (better-of Q b u q h (subst (λ (x : ℕ). Q x q) (omega arith) (g 0 q refl)))
     (λ k p e. subst (λ (x : ℕ). Q x p) (omega arith) (g (suc k) p e))
 
--- who is next waits
-pub next-waits : (slots : List Slot) (v : ℕ) (p : Float) → next slots ≡ best v p → getD slots v out ≡ waits p
-unfolding next
-next-waits slots v p e = subst (Of Waiting) e (best-of Waiting nobody 0 slots tt (λ k q h. rw zero-add h))
-  where
-    Waiting : ℕ → Float → Type 0
-    Waiting u q = getD slots u out ≡ waits q
-
 -- who waits has a slot
 slot-inside : (slots : List Slot) (v : ℕ) (p : Float) → getD slots v out ≡ waits p → v < length slots
 slot-inside slots v p e = lt-of-not-le (λ h. out-waits (getD slots v out) p (List·getD-eq-default slots out h) e)
-
--- and so has who is next
-pub next-inside : (slots : List Slot) (v : ℕ) (p : Float) → next slots ≡ best v p → v < length slots
-next-inside slots v p e = slot-inside slots v p (next-waits slots v p e)
 
 -- where nobody waits, nobody is found
 found-none : (v : ℕ) (slots : List Slot) → taken slots ≡ 0 → bestFrom nobody v slots ≡ nobody
@@ -72,7 +60,7 @@ pub record MayGo (settings : Settings) (s : State) (v : ℕ) (p : Float) : Type 
 
 -- whose turn it is, may go
 pub due-may-go : (settings : Settings) (watch : Watch) (s : State) (v : ℕ) (p : Float) → due settings watch s ≡ best v p → MayGo settings s v p
-unfolding due next
+unfolding due goesOn next
 due-may-go settings watch s v p e = subst (Of (MayGo settings s)) e all
   where
     all : Of (MayGo settings s) (due settings watch s)

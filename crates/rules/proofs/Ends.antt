@@ -4,28 +4,19 @@ use Prim.Native.Nat.{ℕ, zero, suc, _+_, _-_, _*_, _≤_, _<_}
 use native.Mathlib.Omega.{arith}
 use native.Mathlib.Nat.{sub-zero, zero-add, suc-add}
 use mathlib.Core.Path.{_≡_, refl, sym, ap, _∙_}
-use mathlib.Core.List.{List, [], _∷_}
-use lib.ListN.{length, getD, set, length-set}
+use mathlib.Core.List.{List}
+use lib.ListN.{length, length-set}
 use lib.Ieee.{Float}
 use Rattle.numbers.proofs.Choice.{either}
 use Rattle.refusals.specs.declared.Settings.{Settings}
-use Rattle.queue.specs.Waiting.{Slot, out, waits, taken, Best, nobody, best}
-use Rattle.queue.proofs.Taken.{out-waits, taken-length}
+use Rattle.queue.specs.Waiting.{taken, Best, nobody, best}
+use Rattle.rules.proofs.Slots.{taken-length, taken-fewer}
 use Rattle.rules.specs.Ways.{Way}
 use Rattle.rules.specs.Rules.{State, Watch, blank, queued, counted, due, visit, turn, onward, run, start, enough, solve}
 use Rattle.rules.proofs.Onward.{onward-by, onward-both}
 use Rattle.rules.proofs.Lengths.{start-spans}
 use Rattle.rules.proofs.Uncounted.{Uncounted, push-uncounted, start-uncounted}
 use Rattle.rules.proofs.Due.{MayGo, due-may-go}
-
--- one that waits no more makes one fewer
-taken-fewer : (slots : List Slot) (v : ℕ) (p : Float) → getD slots v out ≡ waits p → suc (taken (set slots v out)) ≡ taken slots
-unfolding taken
-taken-fewer [] v p e = out-waits out p refl e
-taken-fewer (out ∷ slots) zero p e = out-waits out p refl e
-taken-fewer (waits q ∷ slots) zero p e = refl
-taken-fewer (out ∷ slots) (suc v) p e = taken-fewer slots v p e
-taken-fewer (waits q ∷ slots) (suc v) p e = ap suc (taken-fewer slots v p e)
 
 -- ---- the measure
 

@@ -1,5 +1,6 @@
 -- The theorems on the rules: a solve ends, what it looks at, which nodes it marks.
 pub mod Lists
+pub mod Slots
 pub mod Each
 pub mod Onward
 pub mod Keeps

@@ -11,7 +11,7 @@ use Rattle.numbers.specs.Numbers.{+0}
 use Rattle.refusals.specs.declared.Settings.{Settings}
 use Rattle.graph.specs.Rows.{Entry}
 use Rattle.queue.specs.Waiting.{Slot, out, waits, best}
-use Rattle.queue.proofs.Taken.{out-waits}
+use Rattle.rules.proofs.Slots.{out-waits}
 use Rattle.rules.specs.Ways.{Way, degreeOf}
 use Rattle.rules.specs.Rules.{State, Watch, blank, queued, gain, absorb, counted, offer, pass, handOut, push, due, skips, visit, turn, run, begun, start, enough, solve}
 use Rattle.rules.specs.Reach.{Untouched}

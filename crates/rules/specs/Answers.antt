@@ -1,5 +1,5 @@
--- What the calls answer from the states that solves end in: counts, scores of single nodes, the extrapolated and the combined vectors, and which
--- solves `adaptive_solve` uses. The norm is `Norm` of the residual. Assumes nothing.
+-- What the calls answer from the states that solves end in: counts, scores of single nodes, the extrapolated vector, the one score that two solves
+-- combine to, and which solves `adaptive_solve` uses. The norm is `Norm` of the residual. Assumes nothing.
 use Prim.Native.Nat.{ℕ, zero, suc}
 use mathlib.Core.Bool.{false, _&&_}
 use mathlib.Core.List.{List}
@@ -50,10 +50,13 @@ byDegrees outward inward =
     let two = f64 0x4000_0000_0000_0000 in
     if lt (inward ⊗ two) outward then backwardAlone else (if lt (outward ⊗ two) inward then forwardAlone else both)
 
--- by the degrees that the rows of n nodes give; neither where a number is out of range
+-- by the out-degrees and in-degrees of n nodes; neither where a number is out of range
+unfoldable pub methodAmong : ℕ → (ℕ → Float) → (ℕ → Float) → ℕ → ℕ → Method
+methodAmong n outward inward source target = if ltb source n && ltb target n then byDegrees (outward source) (inward target) else neither
+
+-- by those that the rows of n nodes give
 unfoldable pub method : ℕ → List (List Entry) → ℕ → ℕ → Method
-method n rows source target =
-    if ltb source n && ltb target n then byDegrees (degreeOf (over pushForward n rows) source) (degreeOf (over pushBackward n rows) target) else neither
+method n rows source target = methodAmong n (degreeOf (over pushForward n rows)) (degreeOf (over pushBackward n rows)) source target
 
 -- what it answers, from the backward and the forward solve; alpha is the backward one
 unfoldable pub answerBy : Method → Float → ℕ → ℕ → ℕ → State → State → Float

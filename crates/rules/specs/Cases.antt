@@ -1,5 +1,5 @@
--- The cases P1 to P12, and below them cases of what is easy to get wrong, as one list that the rules are checked against. A number is
--- written by its bit pattern; the norms and the square roots go by the root's definition. Assumes nothing.
+-- The cases P1 to P12, and below them cases of what is easy to get wrong, as one list that the rules are checked against. A binary64 is
+-- given by its bit pattern or by a name for it; the norms and the square roots go by the root's definition. Assumes nothing.
 use Prim.Native.Nat.{ℕ, _^_}
 use mathlib.Core.Bool.{Bool, true, false}
 use mathlib.Core.List.{List, [], _∷_}
@@ -18,12 +18,16 @@ use Rattle.marks.specs.Marks.{howMany}
 use Rattle.graph.specs.Rows.{Link, link, kept, gives, rowOf, rowsOf, sumFrom, degree, into, intoFrom, transposed}
 use Rattle.queue.specs.Waiting.{out, taken, answer, offered, better, bestFrom, next, usual, adapted}
 use Rattle.rules.specs.Ways.{pushForward, pushBackward, effective, transition, shareOf, wayOf, over, overLinks, degreeOf}
-use Rattle.rules.specs.Rules.{each, State, unwatched, watched, blank, queued, gain, absorb, counted, offer, pass, handOut, push, stops, due, skips, visit, turn, onward, run}
+use Rattle.rules.specs.Rules.{each, State, unwatched, watched, blank, queued, gain, absorb, thresholdAfter, counted, offer, pass, handOut, push, stops, goesOn, due, skips, visit, turn, onward, run}
 use Rattle.rules.specs.Rules.{inside, watchable, begun, start, enough, solve}
 use Rattle.rules.specs.Pushed.{pushed, distinct}
-use Rattle.rules.specs.Answers.{visitedCount, scoreAt, extrapolated, combined, together, neither, backwardAlone, forwardAlone, both, byDegrees, method}
+use Rattle.rules.specs.Answers.{visitedCount, scoreAt, extrapolated, combined, together, neither, backwardAlone, forwardAlone, both, byDegrees, methodAmong, method}
 
 -- ---- numbers
+
+-- 1/64
+abbrev sixty-fourth : Float
+sixty-fourth = f64 0x3f90_0000_0000_0000
 
 -- 1/8
 abbrev eighth : Float
@@ -36,6 +40,10 @@ quarter = f64 0x3fd0_0000_0000_0000
 -- 1/2
 abbrev half : Float
 half = f64 0x3fe0_0000_0000_0000
+
+-- 3/4
+abbrev three-quarters : Float
+three-quarters = f64 0x3fe8_0000_0000_0000
 
 -- 2
 abbrev two : Float
@@ -76,6 +84,10 @@ chain weight = link 0 1 weight ∷ []
 abbrev fork : Float → Float → List Link
 fork a b = link 0 1 a ∷ link 0 2 b ∷ []
 
+-- links 0→2 and 1→2
+abbrev joint : List Link
+joint = link 0 2 one ∷ link 1 2 one ∷ []
+
 -- a solve of a list of links
 abbrev solved : Bool → ℕ → List Link → Settings → List ℕ → State
 solved direction n links settings sources = solve (overLinks direction n links) settings unwatched n sources
@@ -83,6 +95,10 @@ solved direction n links settings sources = solve (overLinks direction n links) 
 -- the chain from 0, with a node that is watched
 abbrev watching : ℕ → Float → State
 watching v precision = solve (overLinks pushForward 2 (chain one)) (usually 10) (watched v precision) 2 (0 ∷ [])
+
+-- a node with a link to itself that watches itself at the precision 5/8, a tenth of which is 1/16
+abbrev watching-itself : State
+watching-itself = solve (overLinks pushForward 1 (link 0 0 one ∷ [])) (set-to half sixty-fourth sixty-fourth 10) (watched 0 (f64 0x3fe4_0000_0000_0000)) 1 (0 ∷ [])
 
 -- the fork with weights 2 and 3, and alpha 0.15
 abbrev uneven : Bool → ℕ → State
@@ -133,8 +149,8 @@ pub record Worked : Type 0 where
   -- P5: a threshold that nobody reaches
   pub high-threshold : shown (solved pushForward 2 (chain one) (set-to half quarter two 10) (0 ∷ [])) ≡ ending 0 0 (+0 ∷ +0 ∷ []) (one ∷ +0 ∷ [])
   -- P6: node 1 is popped, and skipped
-  pub skipped : shown (solved pushForward 2 (chain one) (set-to half (f64 0x3fe8_0000_0000_0000) quarter 10) (0 ∷ [])) ≡ ending 1 1 (half ∷ +0 ∷ []) (+0 ∷ half ∷ [])
-  pub popped : solved pushForward 2 (chain one) (set-to half (f64 0x3fe8_0000_0000_0000) quarter 10) (0 ∷ []) .slots ≡ out ∷ out ∷ []
+  pub skipped : shown (solved pushForward 2 (chain one) (set-to half three-quarters quarter 10) (0 ∷ [])) ≡ ending 1 1 (half ∷ +0 ∷ []) (+0 ∷ half ∷ [])
+  pub popped : solved pushForward 2 (chain one) (set-to half three-quarters quarter 10) (0 ∷ []) .slots ≡ out ∷ out ∷ []
   -- P7: of equal priorities, node 2 goes first
   pub tie : shown (solved pushForward 3 (fork one one) (usually 2) (0 ∷ [])) ≡ ending 2 2 (half ∷ +0 ∷ eighth ∷ []) (+0 ∷ quarter ∷ eighth ∷ [])
   -- P8: backward
@@ -164,12 +180,25 @@ pub record Worked : Type 0 where
   -- the priority of a node that waits stays where a second link brings it more: 2 is pushed before 1, which has more by then
   pub priority-stays : shown (solved pushForward 3 (link 0 1 five-quarters ∷ link 0 2 three-halves ∷ link 0 1 five-quarters ∷ []) (set-to half eighth eighth 2) (0 ∷ [])) ≡ ending 2 2 (half ∷ +0 ∷ f64 0x3fb8_0000_0000_0000 ∷ []) (+0 ∷ f64 0x3fd4_0000_0000_0000 ∷ f64 0x3fb8_0000_0000_0000 ∷ [])
   -- a skip between two pushes uses up no push: node 1 has the higher priority and is skipped, and node 2 is pushed after it
-  pub skipped-between : shown (solved pushForward 3 (link 0 1 (f64 0x3fe8_0000_0000_0000) ∷ link 0 2 quarter ∷ link 0 2 one ∷ []) (set-to half quarter +0 2) (0 ∷ [])) ≡ ending 2 2 (half ∷ +0 ∷ f64 0x3fc4_0000_0000_0000 ∷ []) (+0 ∷ f64 0x3fc8_0000_0000_0000 ∷ f64 0x3fc4_0000_0000_0000 ∷ [])
+  pub skipped-between : shown (solved pushForward 3 (link 0 1 three-quarters ∷ link 0 2 quarter ∷ link 0 2 one ∷ []) (set-to half quarter +0 2) (0 ∷ [])) ≡ ending 2 2 (half ∷ +0 ∷ f64 0x3fc4_0000_0000_0000 ∷ []) (+0 ∷ f64 0x3fc8_0000_0000_0000 ∷ f64 0x3fc4_0000_0000_0000 ∷ [])
+  -- a priority is the residual over e: with a degree of 2 it is 1/2 at the start, which a threshold of 3/4 keeps out, forward by the out-degree and
+  -- backward by the in-degree
+  pub offered-over-degree : shown (solved pushForward 3 (fork one one) (set-to half quarter three-quarters 10) (0 ∷ [])) ≡ ending 0 0 (+0 ∷ +0 ∷ +0 ∷ []) (one ∷ +0 ∷ +0 ∷ [])
+  pub offered-over-in-degree : shown (solved pushBackward 3 joint (set-to half quarter three-quarters 10) (2 ∷ [])) ≡ ending 0 0 (+0 ∷ +0 ∷ +0 ∷ []) (+0 ∷ +0 ∷ one ∷ [])
+  -- a skip goes by epsilon × e: with a degree of 2 the residual 1 is below 3/4 × 2, though not below 3/4
+  pub skipped-by-degree : shown (solved pushForward 3 (fork one one) (set-to half three-quarters quarter 10) (0 ∷ [])) ≡ ending 0 0 (+0 ∷ +0 ∷ +0 ∷ []) (one ∷ +0 ∷ +0 ∷ [])
+  pub skipped-by-in-degree : shown (solved pushBackward 3 joint (set-to half three-quarters quarter 10) (2 ∷ [])) ≡ ending 0 0 (+0 ∷ +0 ∷ +0 ∷ []) (+0 ∷ +0 ∷ one ∷ [])
+  -- a residual of 0 moves nothing, and is counted: with alpha 1 node 1 gets 0 and is pushed once; a rest of 0 handed back would let it wait again
+  pub zero-moves-nothing : shown (solved pushForward 2 (chain one) (set-to one +0 +0 10) (0 ∷ [])) ≡ ending 2 2 (one ∷ +0 ∷ []) (+0 ∷ +0 ∷ [])
+  -- a source that is listed twice has both shares
+  pub listed-twice : shown (solved pushForward 2 (chain one) (usually 0) (0 ∷ 0 ∷ [])) ≡ ending 0 0 (+0 ∷ +0 ∷ []) (one ∷ +0 ∷ [])
   -- where the degree is 0 the rest goes back, links or not
   pub weightless : shown (solved pushForward 2 (chain +0) (usually 1) (0 ∷ [])) ≡ ending 1 1 (half ∷ +0 ∷ []) (half ∷ +0 ∷ [])
   -- the early stop: after one push the estimate of node 0 is above 1/4, and never above 1/2; a watched node out of range
   pub stopped : shown (watching 0 quarter) ≡ ending 1 1 (half ∷ +0 ∷ []) (+0 ∷ half ∷ [])
   pub unstopped : shown (watching 0 half) ≡ ending 3 2 (half ∷ f64 0x3fd8_0000_0000_0000 ∷ []) (+0 ∷ eighth ∷ [])
+  -- it asks for both: the estimate is above 5/8 after two pushes, and the residual is 1/16 after four and below it after five
+  pub stopped-by-both : shown watching-itself ≡ ending 5 1 (f64 0x3fef_0000_0000_0000 ∷ []) (f64 0x3fa0_0000_0000_0000 ∷ [])
   pub unwatchable : shown (watching 2 quarter) ≡ ending 0 0 (+0 ∷ +0 ∷ []) (+0 ∷ +0 ∷ [])
   -- the threshold adapts at the thousandth push, and not before: × 0.9, since nobody waits
   pub adapts : counted adaptive 0 (after 999) .threshold ≡ f64 0x3fcc_cccc_cccc_cccd
@@ -182,7 +211,7 @@ pub record Worked : Type 0 where
 
 -- the list holds
 pub worked : Worked
-unfolding if_then_else_ tabulate howMany kept gives rowOf rowsOf sumFrom degree into intoFrom transposed taken answer offered better bestFrom next usual adapted effective transition shareOf wayOf over degreeOf each blank queued gain absorb counted offer pass handOut push stops due skips visit turn onward run inside watchable begun start enough solve pushed distinct any visitedCount scoreAt extrapolated combined byDegrees method addSquares ofBits ofInt add sub mul div lt le odd
+unfolding if_then_else_ tabulate howMany kept gives rowOf rowsOf sumFrom degree into intoFrom transposed taken answer offered better bestFrom next usual adapted effective transition shareOf wayOf over degreeOf each blank queued gain absorb thresholdAfter counted offer pass handOut push stops goesOn due skips visit turn onward run inside watchable begun start enough solve pushed distinct any visitedCount scoreAt extrapolated combined byDegrees methodAmong method addSquares ofBits ofInt add sub mul div lt le odd
 worked =
     record {
       chain-forward = refl;
@@ -216,9 +245,16 @@ worked =
       own-link = refl;
       priority-stays = refl;
       skipped-between = refl;
+      offered-over-degree = refl;
+      offered-over-in-degree = refl;
+      skipped-by-degree = refl;
+      skipped-by-in-degree = refl;
+      zero-moves-nothing = refl;
+      listed-twice = refl;
       weightless = refl;
       stopped = refl;
       unstopped = refl;
+      stopped-by-both = refl;
       unwatchable = refl;
       adapts = refl;
       adapts-not = refl;

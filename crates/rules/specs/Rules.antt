@@ -58,28 +58,38 @@ gain x v s =
       visited = s .visited;
     }
 
+-- the estimate where that of v gained alpha × its residual
+abbrev pub absorbed : Float → ℕ → List Float → List Float → List Float
+absorbed alpha v estimate residual = set estimate v (at estimate v ⊕ (alpha ⊗ at residual v))
+
+-- the residual where that of v became +0
+abbrev pub cleared : ℕ → List Float → List Float
+cleared v residual = set residual v +0
+
 -- the estimate of v gains alpha × its residual, and the residual becomes +0
 unfoldable pub absorb : Float → ℕ → State → State
 absorb alpha v s =
     record {
-      estimate = set (s .estimate) v (at (s .estimate) v ⊕ (alpha ⊗ at (s .residual) v));
-      residual = set (s .residual) v +0;
+      estimate = absorbed alpha v (s .estimate) (s .residual);
+      residual = cleared v (s .residual);
       slots = s .slots;
       threshold = s .threshold;
       pushes = s .pushes;
       visited = s .visited;
     }
 
--- a push of v is counted and v is marked; in adaptive mode the threshold adapts after every so many
+-- the threshold after so many pushes, at a size of the queue: in adaptive mode it adapts after every so many
+unfoldable pub thresholdAfter : Bool → ℕ → ℕ → Float → Float
+thresholdAfter adaptive pushes size threshold = if adaptive && eqb (pushes % usual .step) 0 then adapted usual size threshold else threshold
+
+-- a push of v is counted and v is marked, and the threshold may adapt
 unfoldable pub counted : Settings → ℕ → State → State
 counted settings v s =
     record {
       estimate = s .estimate;
       residual = s .residual;
       slots = s .slots;
-      threshold =
-          (if settings .«adaptive_threshold» && eqb (suc (s .pushes) % usual .step) 0 then adapted usual (taken (s .slots)) (s .threshold)
-          else s .threshold);
+      threshold = thresholdAfter (settings .«adaptive_threshold») (suc (s .pushes)) (taken (s .slots)) (s .threshold);
       pushes = suc (s .pushes);
       visited = set (s .visited) v true;
     }
@@ -115,9 +125,13 @@ unfoldable pub stops : Watch → State → Bool
 stops unwatched s = false
 stops (watched v precision) s = lt precision (at (s .estimate) v) && lt (at (s .residual) v) (precision ⊗ f64 0x3fb9_9999_9999_999a)
 
--- whose turn it is: the next of the queue, while push_count < max_pushes and the early stop does not say so
+-- the loop goes on while push_count < max_pushes and the early stop does not say so
+unfoldable pub goesOn : Settings → Watch → State → Bool
+goesOn settings watch s = ltb (s .pushes) (settings .«max_pushes») && not (stops watch s)
+
+-- whose turn it is: the next of the queue, while the loop goes on
 unfoldable pub due : Settings → Watch → State → Best
-due settings watch s = if ltb (s .pushes) (settings .«max_pushes») && not (stops watch s) then next (s .slots) else nobody
+due settings watch s = if goesOn settings watch s then next (s .slots) else nobody
 
 -- whether v is skipped: its residual < epsilon × e
 unfoldable pub skips : Way → Settings → ℕ → State → Bool

@@ -5,7 +5,8 @@ ghost use Prim.Native.Nat.{_≤_};
 ghost use lib.ListN.{length};
 ghost use Rattle.rules.specs.Rules as Rules;
 ghost use Rattle.watching.specs.Watching.{watchIn};
-ghost use Rattle.pushes.specs.Buffers.{Rows, Ready, Room};
+ghost use Rattle.pushes.specs.States.{heldIn, heldBefore, heldAfter};
+ghost use Rattle.pushes.specs.Buffers.{listsIn, lists, Rows, Ready, Room};
 ghost use Rattle.pushes.specs.Meant.{Stands};
 ghost use Rattle.starting.specs.Promises.{LeavesState};
 ghost use Rattle.solver.specs.Promises.{Continues, Ran};
@@ -54,12 +55,10 @@ fn run<'a>(
     queued: &mut [u64],
     visited: &mut [u64],
 ) -> Progress
-    requires { ⌜ Ready (length (now degrees)) backward (now starts) (now columns) (now «reverse_columns») (now weights) (now «reverse_weights») (now degrees) (now «out_degrees»)
-        (now estimate) (now residual) (p .queue) (now priorities) (now nodes) (now queued) (now visited) ⌝ }
-    ensures { λ r. ⌜ Ran (Stands (length (now (degrees .entry))) backward (now (starts .entry)) (now (columns .entry)) (now («reverse_columns» .entry))
-        (now (weights .entry)) (now («reverse_weights» .entry)) (now («out_degrees» .entry))) settings (watchIn watch) (length (now (degrees .entry)))
-        (now (estimate .entry)) (now (residual .entry)) p (now (priorities .entry)) (now (nodes .entry)) (now (visited .entry))
-        (now (estimate .exit)) (now (residual .exit)) r (now (priorities .exit)) (now (nodes .exit)) (now (queued .exit)) (now (visited .exit)) ⌝ }
+    requires { ⌜ Ready (length (now degrees)) backward (listsIn starts columns «reverse_columns» weights «reverse_weights» degrees «out_degrees»)
+        (heldIn p estimate residual priorities nodes queued visited) ⌝ }
+    ensures { λ r. ⌜ Ran (Stands (length (now (degrees .entry))) backward (lists starts columns «reverse_columns» weights «reverse_weights» degrees «out_degrees»)) settings (watchIn watch)
+        (length (now (degrees .entry))) (heldBefore p estimate residual priorities nodes queued visited) (heldAfter r estimate residual priorities nodes queued visited) ⌝ }
 {
     let mut w = p;
     while goes_on(settings, watch, w, estimate, residual) {
@@ -106,12 +105,11 @@ pub fn solve<'a>(
     queued: &mut [u64],
     visited: &mut [u64],
 ) -> Progress
-    requires { ⌜ Rows (length (now degrees)) backward (now starts) (now columns) (now «reverse_columns») (now weights) (now «reverse_weights») (now degrees) (now «out_degrees»)
+    requires { ⌜ Rows (length (now degrees)) backward (listsIn starts columns «reverse_columns» weights «reverse_weights» degrees «out_degrees»)
         × Room (length (now degrees)) (now estimate) (now residual) (now priorities) (now nodes) (now queued) (now visited) × (length (now sources) ≤ 65536) ⌝ }
-    ensures { λ r. ⌜ LeavesState (Stands (length (now (degrees .entry))) backward (now (starts .entry)) (now (columns .entry)) (now («reverse_columns» .entry))
-        (now (weights .entry)) (now («reverse_weights» .entry)) (now («out_degrees» .entry)))
+    ensures { λ r. ⌜ LeavesState (Stands (length (now (degrees .entry))) backward (lists starts columns «reverse_columns» weights «reverse_weights» degrees «out_degrees»))
         (λ way. Rules.solve way settings (watchIn watch) (length (now (degrees .entry))) (now (sources .entry)))
-        (length (now (degrees .entry))) (now (estimate .exit)) (now (residual .exit)) r (now (priorities .exit)) (now (nodes .exit)) (now (queued .exit)) (now (visited .exit)) ⌝ }
+        (length (now (degrees .entry))) (heldAfter r estimate residual priorities nodes queued visited) ⌝ }
 {
     let p = starting::start(
         settings,

@@ -10,10 +10,9 @@ use lib.Seq.{drop-cons}
 use lib.Dec.{ltb}
 use lib.Ieee.{Float}
 use Rattle.numbers.specs.Choice.{if_then_else_}
-use Rattle.queue.specs.declared.WorkQueue.{WorkQueue}
 use Rattle.rules.specs.Ways.{Way}
 use Rattle.rules.specs.Rules.{State, each, inside, gain, offer}
-use Rattle.pushes.specs.States.{progress, stateIn}
+use Rattle.pushes.specs.States.{stateIn, Waits, stateWith}
 use Rattle.pushes.specs.Buffers.{Lent}
 use Rattle.pushes.specs.Meant.{Weighing}
 use Rattle.pushes.specs.declared.Progress.{Progress}
@@ -37,10 +36,10 @@ pub record Gaining (x : Float) (sources : List ℕ) (residual₀ residual : List
       ≡ each (gain x) (inside (length residual₀) sources) (stateIn n estimate residual₀ p ps ns vs)
 
 -- what holds at the source i, while all are offered
-pub record Offering (sources : List ℕ) (degrees residual ps₀ : List Float) (ns₀ ws₀ : List ℕ) (q₀ : WorkQueue) (ps : List Float) (ns ws : List ℕ) (q : WorkQueue) (i : ℕ) : Type 0 where
+pub record Offering (sources : List ℕ) (degrees : List Float) (w₀ w : Waits) (i : ℕ) : Type 0 where
   pub up-to : i ≤ length sources
-  pub lent : Lent (length degrees) q residual ps ns ws
-  pub same-words : length ws ≡ length ws₀
+  pub lent : Lent (length degrees) w
+  pub same-words : length (w .queued) ≡ length (w₀ .queued)
   pub left : (way : Way) → Weighing degrees way → (estimate : List Float) (pushes : ℕ) (vs : List ℕ)
-      → each (offer way) (inside (length degrees) (drop i sources)) (stateIn (length degrees) estimate residual (progress q pushes) ps ns vs)
-      ≡ each (offer way) (inside (length degrees) sources) (stateIn (length degrees) estimate residual (progress q₀ pushes) ps₀ ns₀ vs)
+      → each (offer way) (inside (length degrees) (drop i sources)) (stateWith (length degrees) estimate pushes vs w)
+      ≡ each (offer way) (inside (length degrees) sources) (stateWith (length degrees) estimate pushes vs w₀)

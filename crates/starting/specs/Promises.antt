@@ -1,3 +1,4 @@
+-- Inner: no public promise cites it.
 -- What the functions ensure: the state after is a rule's, for every way that is meant. What a function does not touch is quantified.
 -- Assumes nothing.
 use Prim.Native.Nat.{ℕ}
@@ -7,7 +8,7 @@ use lib.ListN.{length}
 use lib.Ieee.{Float}
 use Rattle.rules.specs.Ways.{Way}
 use Rattle.rules.specs.Rules.{State}
-use Rattle.pushes.specs.States.{stateIn, NoneBeyond}
+use Rattle.pushes.specs.States.{stateIn, Held, waitsOf, stateOf, NoneBeyond}
 use Rattle.pushes.specs.Buffers.{Lent}
 use Rattle.pushes.specs.declared.Progress.{Progress}
 
@@ -18,7 +19,7 @@ pub record Gained (f : State → State) (residual residual′ : List Float) : Ty
       → stateIn n estimate residual′ p priorities nodes visited ≡ f (stateIn n estimate residual p priorities nodes visited)
 
 -- the whole state, by the way and by nothing that the buffers held before
-pub record LeavesState (meant : Way → Type 0) (f : Way → State) (n : ℕ) (estimate residual : List Float) (p : Progress) (priorities : List Float) (nodes queued visited : List ℕ) : Type 0 where
-  pub lent : Lent n (p .queue) residual priorities nodes queued
-  pub state : (way : Way) → meant way → stateIn n estimate residual p priorities nodes visited ≡ f way
-  pub beyond : NoneBeyond n visited
+pub record LeavesState (meant : Way → Type 0) (f : Way → State) (n : ℕ) (h : Held) : Type 0 where
+  pub lent : Lent n (waitsOf h)
+  pub state : (way : Way) → meant way → stateOf n h ≡ f way
+  pub beyond : NoneBeyond n (h .visited)

@@ -15,7 +15,7 @@ use Rattle.queue.specs.Waiting.{out}
 use Rattle.queue.specs.Heap.{waiting, Heap}
 use Rattle.queue.specs.declared.WorkQueue.{WorkQueue}
 use Rattle.rules.specs.Rules.{queued, counted}
-use Rattle.pushes.specs.States.{marksIn, SameBeyond, progress, stateIn}
+use Rattle.pushes.specs.States.{marksIn, SameBeyond, progress, stateIn, Held, held, stateOf}
 use Rattle.turns.specs.Promises.{Adapted}
 
 -- one node more is marked
@@ -28,17 +28,15 @@ pub marks-beyond : (n v : ℕ) (words words′ : List ℕ) → WithMark true wor
 marks-beyond n v words words′ w h u l = w .elsewhere u (λ e. omega arith)
 
 -- a push of v was counted
-pub counted-state : (settings : Settings) (n v : ℕ) (estimate residual : List Float) (q q′ : WorkQueue) (pushes : ℕ) (ps : List Float) (ns ws visited visited′ : List ℕ)
-    → Heap (q .size) ps ns ws → Adapted (settings .«adaptive_threshold») (pushes + 1) q q′ → WithMark true visited visited′ v → v < n
-    → stateIn n estimate residual (progress q′ (pushes + 1)) ps ns visited′ ≡ counted settings v (stateIn n estimate residual (progress q pushes) ps ns visited)
-unfolding stateIn counted
-counted-state settings n v estimate residual q q′ pushes ps ns ws visited visited′ h a m l =
-    rw (marks-set n v visited visited′ m l, a .same-size, a .threshold-is, add-one, h .count)
+pub counted-state : (settings : Settings) (n v : ℕ) (h : Held) (q : WorkQueue) (vs : List ℕ) → Heap (h .p .queue .size) (h .priorities) (h .nodes) (h .queued)
+    → Adapted (settings .«adaptive_threshold») (h .p .pushes + 1) (h .p .queue) q → WithMark true (h .visited) vs v → v < n
+    → stateOf n (held (progress q (h .p .pushes + 1)) (h .estimate) (h .residual) (h .priorities) (h .nodes) (h .queued) vs) ≡ counted settings v (stateOf n h)
+unfolding stateOf stateIn counted
+counted-state settings n v h q vs y a m l = rw (marks-set n v (h .visited) vs m l, a .same-size, a .threshold-is, add-one, y .count)
 
 -- v left the queue
-pub queued-state : (n v : ℕ) (estimate residual : List Float) (q q′ : WorkQueue) (pushes : ℕ) (ps : List Float) (ns : List ℕ) (ps′ : List Float) (ns′ visited : List ℕ)
-    → q′ .threshold ≡ q .threshold → waiting (q′ .size) ps′ ns′ ≡ set (waiting (q .size) ps ns) v out
-    → stateIn n estimate residual (progress q′ pushes) ps′ ns′ visited
-    ≡ queued (set (waiting (q .size) ps ns) v out) (stateIn n estimate residual (progress q pushes) ps ns visited)
-unfolding stateIn queued
-queued-state n v estimate residual q q′ pushes ps ns ps′ ns′ visited t w = rw (t, w)
+pub queued-state : (n v : ℕ) (h : Held) (q : WorkQueue) (ps : List Float) (ns : List ℕ) → q .threshold ≡ h .p .queue .threshold
+    → waiting (q .size) ps ns ≡ set (stateOf n h .slots) v out
+    → stateOf n (held (progress q (h .p .pushes)) (h .estimate) (h .residual) ps ns (h .queued) (h .visited)) ≡ queued (set (stateOf n h .slots) v out) (stateOf n h)
+unfolding stateOf stateIn queued
+queued-state n v h q ps ns t w = rw (t, w)

@@ -3,7 +3,8 @@
 ghost use Prim.Native.Nat.{_<_};
 ghost use lib.ListN.{length};
 ghost use Rattle.rules.specs.Rules as Rules;
-ghost use Rattle.pushes.specs.Buffers.{Ready};
+ghost use Rattle.pushes.specs.States.{heldIn, heldBefore, heldAfter};
+ghost use Rattle.pushes.specs.Buffers.{listsIn, lists, Ready};
 ghost use Rattle.pushes.specs.Meant.{Stands};
 ghost use Rattle.turns.specs.Promises.{Visited, Adapted, Turned};
 use pushes::Progress;
@@ -45,13 +46,11 @@ fn visit<'a>(
     queued: &mut [u64],
     visited: &mut [u64],
 ) -> Progress
-    requires { ⌜ Ready (length (now degrees)) backward (now starts) (now columns) (now «reverse_columns») (now weights) (now «reverse_weights») (now degrees) (now «out_degrees»)
-        (now estimate) (now residual) (p .queue) (now priorities) (now nodes) (now queued) (now visited)
-        × (v < length (now degrees)) × (p .pushes < settings .«max_pushes») ⌝ }
-    ensures { λ r. ⌜ Visited (Stands (length (now (degrees .entry))) backward (now (starts .entry)) (now (columns .entry)) (now («reverse_columns» .entry))
-        (now (weights .entry)) (now («reverse_weights» .entry)) (now («out_degrees» .entry))) (λ way. Rules.visit way settings v) (length (now (degrees .entry)))
-        (now (estimate .entry)) (now (residual .entry)) p (now (priorities .entry)) (now (nodes .entry)) (now (visited .entry))
-        (now (estimate .exit)) (now (residual .exit)) r (now (priorities .exit)) (now (nodes .exit)) (now (queued .exit)) (now (visited .exit)) ⌝ }
+    requires { ⌜ Ready (length (now degrees)) backward (listsIn starts columns «reverse_columns» weights «reverse_weights» degrees «out_degrees»)
+        (heldIn p estimate residual priorities nodes queued visited) × (v < length (now degrees)) × (p .pushes < settings .«max_pushes») ⌝ }
+    ensures { λ r. ⌜ Visited (Stands (length (now (degrees .entry))) backward (lists starts columns «reverse_columns» weights «reverse_weights» degrees «out_degrees»))
+        (λ way. Rules.visit way settings v) (length (now (degrees .entry)))
+        (heldBefore p estimate residual priorities nodes queued visited) (heldAfter r estimate residual priorities nodes queued visited) ⌝ }
 {
     let at = v as usize;
     let q = p.queue;
@@ -101,13 +100,10 @@ pub fn turn<'a>(
     queued: &mut [u64],
     visited: &mut [u64],
 ) -> Progress
-    requires { ⌜ Ready (length (now degrees)) backward (now starts) (now columns) (now «reverse_columns») (now weights) (now «reverse_weights») (now degrees) (now «out_degrees»)
-        (now estimate) (now residual) (p .queue) (now priorities) (now nodes) (now queued) (now visited)
-        × (0 < p .queue .size) × (p .pushes < settings .«max_pushes») ⌝ }
-    ensures { λ r. ⌜ Turned (Stands (length (now (degrees .entry))) backward (now (starts .entry)) (now (columns .entry)) (now («reverse_columns» .entry))
-        (now (weights .entry)) (now («reverse_weights» .entry)) (now («out_degrees» .entry))) settings (length (now (degrees .entry)))
-        (now (estimate .entry)) (now (residual .entry)) p (now (priorities .entry)) (now (nodes .entry)) (now (visited .entry))
-        (now (estimate .exit)) (now (residual .exit)) r (now (priorities .exit)) (now (nodes .exit)) (now (queued .exit)) (now (visited .exit)) ⌝ }
+    requires { ⌜ Ready (length (now degrees)) backward (listsIn starts columns «reverse_columns» weights «reverse_weights» degrees «out_degrees»)
+        (heldIn p estimate residual priorities nodes queued visited) × (0 < p .queue .size) × (p .pushes < settings .«max_pushes») ⌝ }
+    ensures { λ r. ⌜ Turned (Stands (length (now (degrees .entry))) backward (lists starts columns «reverse_columns» weights «reverse_weights» degrees «out_degrees»)) settings
+        (length (now (degrees .entry))) (heldBefore p estimate residual priorities nodes queued visited) (heldAfter r estimate residual priorities nodes queued visited) ⌝ }
 {
     let q = p.queue;
     let popped = queue::held::pop(q, priorities, nodes, queued);

@@ -1,3 +1,4 @@
+-- Inner: no public promise cites it.
 -- The node that a solve watches, and the early stop by it. Assumes nothing.
 use mathlib.Core.Bool.{Bool}
 use mathlib.Core.List.{List}

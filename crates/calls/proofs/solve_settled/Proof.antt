@@ -3,7 +3,7 @@ use mathlib.Core.Path.{ap, _∙_}
 use denote.Ref.{now}
 use lib.ListN.{length}
 use Rattle.rules.specs.Rules.{State}
-use Rattle.pushes.specs.States.{stateIn}
+use Rattle.pushes.specs.States.{stateIn, stateOf}
 use Rattle.calls.specs.Promises.{countedIn}
 use Rattle.calls.proofs.Counting.{few-words, counts-are}
 use borrow.Author.Needs.{needs}
@@ -18,17 +18,11 @@ count-requires c κs =
     let f = c .before .before .before .before .before .before .before .before .before .before .before .before .before .before .before .before .before .before .before .before .before .before .before .before .before .before .before .before .before .before .before .before .before .before .pre .1 in
     few-words (f .room .few) (f .visited-long) (c .before .before .before .before .before .before .before .before .before .before .before .before .before .solve .kept .1 .1 .1 .1 .1 .1 .1 .1 .1 .1 .1 .1 .1 .1 .1 .1 .0)
 
-clear-floats-requires : tie.Need-clear-floats-requires
-clear-floats-requires c κs = search needs
-
 clear-requires : tie.Need-clear-requires
 clear-requires c κs = search needs
 
 clear-requires-2 : tie.Need-clear-requires-2
 clear-requires-2 c κs = search needs
-
-clear-requires-3 : tie.Need-clear-requires-3
-clear-requires-3 c κs = search needs
 
 cast-t43 : tie.Need-cast-t43
 cast-t43 c = search needs
@@ -52,21 +46,22 @@ same-length-6 : tie.Need-same-length-6
 same-length-6 c = search needs
 
 returns : tie.Need-returns
-unfolding stateIn
+unfolding stateOf stateIn
 returns c =
-    let s = c .before .before .before .before .before .before .before .before .before .before .before .before .before .before .before .before .before .before .before .before .before .before .before .before .before .before .before .before .before .before .before .before .before .before .before .before .before .before .before .before .before .before .before .before .before .before .before .before .before .before .before in
+    let s = c .before .before .before .before .before .before .before .before .before .before .before .before .before .before .before .before .before .before .before .before .before .before .before .before .before .before .before .before .before .before .before .before .before .before .before .before .before .before .before .before .before .before .before .before .before .before .before .before .before in
     let a = s .args in
     let f = s .pre .1 in
-    let r = c .before .before .before .before .before .before .before .before .before .before .before .before .before .before .before .before .before .before .before .before .before .before .before .before .before .before .before .before .before .before .solve in
+    let r = c .before .before .before .before .before .before .before .before .before .before .before .before .before .before .before .before .before .before .before .before .before .before .before .before .before .before .before .before .solve in
+    let z = c .before .before .before .before .before .before .before .before .before .before .clear .ensures in
     let n = length (now (a .degrees)) in
     record {
-      counts = λ way st. counts-are n _ _ _ _ _ _ (rw (r .kept .1 .1 .1 .1 .1 .1 .1 .1 .1 .1 .1 .1 .1 .1 .1 .1 .0) (f .room .visited-room)) (r .ensures .beyond) (c .before .before .before .before .before .before .before .before .before .before .before .before .before .before .before .before .count .ensures .1) ∙ ap countedIn (r .ensures .state way st);
-      estimate-is = λ way st. ap (λ (z : State). z .estimate) (r .ensures .state way st);
-      residual-is = λ way st. ap (λ (z : State). z .residual) (r .ensures .state way st);
-      priorities-zero = rw (r .ensures .lent .wide) at (c .before .before .before .before .before .before .before .before .before .before .before .before .before .before .clear-floats .ensures);
-      nodes-zero = rw (r .kept .1 .1 .1 .1 .1 .1 .1 .1 .1 .1 .1 .1 .1 .1 .0, f .room .paired) at (c .before .before .before .before .before .before .before .before .before .before .clear .ensures);
-      queued-zero = rw (r .kept .1 .1 .1 .1 .1 .1 .1 .1 .1 .1 .1 .1 .1 .1 .1 .0, f .queued-long) at (c .before .before .before .before .before .before .clear2 .ensures);
-      visited-zero = rw (r .kept .1 .1 .1 .1 .1 .1 .1 .1 .1 .1 .1 .1 .1 .1 .1 .1 .0, f .visited-long) at (c .before .before .clear3 .ensures);
+      counts = λ way st. counts-are n _ _ _ _ _ _ (rw (r .kept .1 .1 .1 .1 .1 .1 .1 .1 .1 .1 .1 .1 .1 .1 .1 .1 .0) (f .room .visited-room)) (r .ensures .beyond) (c .before .before .before .before .before .before .before .before .before .before .before .before .before .before .count .ensures .1) ∙ ap countedIn (r .ensures .state way st);
+      estimate-is = λ way st. ap (λ (end : State). end .estimate) (r .ensures .state way st);
+      residual-is = λ way st. ap (λ (end : State). end .residual) (r .ensures .state way st);
+      priorities-zero = rw (r .ensures .lent .wide) at (z .priorities-zero);
+      nodes-zero = rw (r .kept .1 .1 .1 .1 .1 .1 .1 .1 .1 .1 .1 .1 .1 .1 .0, f .room .paired) at (z .nodes-zero);
+      queued-zero = rw (r .kept .1 .1 .1 .1 .1 .1 .1 .1 .1 .1 .1 .1 .1 .1 .1 .0, f .queued-long) at (z .marks-zero);
+      visited-zero = rw (r .kept .1 .1 .1 .1 .1 .1 .1 .1 .1 .1 .1 .1 .1 .1 .1 .1 .0, f .visited-long) at (c .before .before .clear2 .ensures);
     }
 
 pub solve-settled-spec : {M : Type 1} → statement M
@@ -75,10 +70,8 @@ solve-settled-spec =
     (tie.spec
     solve-requires
     count-requires
-    clear-floats-requires
     clear-requires
     clear-requires-2
-    clear-requires-3
     cast-t43
     same-length
     same-length-2

@@ -1,14 +1,14 @@
--- `pushes::offer_node` meets its contract, by `offer-state`: a node that waits is left as it is whatever it is offered at (`stays-held`). Assumes nothing.
+-- `pushes::offer_node` meets its contract, by `offer-state`: a node that waits is left as it is whatever it is offered at (`offered-waiting`). Assumes nothing.
 use mathlib.Core.Path.{refl, sym, _∙_}
 use denote.Ref.{now}
-use Rattle.queue.proofs.Enter.{stays-held}
+use Rattle.rules.proofs.Slots.{offered-waiting}
 use Rattle.pushes.proofs.Moves.{offer-state}
 use borrow.Author.Needs.{needs}
 use Rattle.pushes.proofs.offer_node.Statement.{statement}
 use Rattle.pushes.proofs.offer_node.Tie as tie
 
-is-marked-requires : tie.Need-is-marked-requires
-is-marked-requires c κs = search needs
+waits-requires : tie.Need-waits-requires
+waits-requires c κs = search needs
 
 same-length : tie.Need-same-length
 same-length c = search needs
@@ -18,9 +18,12 @@ returns c =
     let s = c .before .before .before .before .before .before .before .before in
     let a = s .args in
     let l = s .pre .lent in
-    let h = stays-held (a .q .size) (now (a .priorities)) (now (a .nodes)) (now (a .queued)) (l .heap) (a .v) (rw (l .wide) (s .pre .below)) (a .q .threshold) _
-    (sym (c .before .is-marked .ensures) ∙ c .if1 .taken) in
-    record { lent = l; state = λ way d. offer-state way _ (a .v) _ (now (a .residual)) (a .q) (a .q) (now (a .priorities)) (now (a .nodes)) _ _ d refl (h .view) }
+    let h = sym (c .before .waits .ensures (a .q .size) (now (a .priorities)) (now (a .nodes)) (l .heap) (rw (l .wide) (s .pre .below))) ∙ c .if1 .taken in
+    record {
+      lent = l;
+      state = λ way d.
+          offer-state way _ (a .v) _ (now (a .residual)) (a .q) (a .q) (now (a .priorities)) (now (a .nodes)) _ _ d refl (sym (offered-waiting (a .q .threshold) (a .v) _ _ h));
+    }
 
 mul-priority : tie.Need-mul-priority
 mul-priority c = search needs
@@ -64,7 +67,7 @@ pub offer-node-spec : {M : Type 1} → statement M
 offer-node-spec =
     tie.close
     (tie.spec
-    is-marked-requires
+    waits-requires
     same-length
     returns
     mul-priority

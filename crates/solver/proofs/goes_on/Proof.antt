@@ -2,8 +2,8 @@
 use mathlib.Core.Path.{refl, sym, _∙_}
 use denote.Ref.{now}
 use borrow.Author.Tests.{lt-ltb, le-ltb}
+use Rattle.rules.specs.Rules.{goesOn}
 use Rattle.pushes.specs.States.{stateIn}
-use Rattle.solver.specs.Promises.{goesOn}
 use borrow.Author.Needs.{needs}
 use Rattle.solver.proofs.goes_on.Statement.{statement}
 use Rattle.solver.proofs.goes_on.Tie as tie

@@ -3,6 +3,7 @@ use mathlib.Core.Path.{refl, _∙_}
 use Rattle.marks.proofs.Marking.{none-marked}
 use denote.Ref.{now}
 use lib.ListN.{length}
+use Rattle.pushes.specs.States.{stateOf}
 use Rattle.starting.proofs.Starting.{blank-state}
 use borrow.Author.Needs.{needs}
 use Rattle.starting.proofs.blank.Statement.{statement}
@@ -33,6 +34,7 @@ same-length-4 : tie.Need-same-length-4
 same-length-4 c = search needs
 
 returns : tie.Need-returns
+unfolding stateOf
 returns c =
     let s = c .before .before .before .before .before .before .before .before .before .before .before .before .before .before .before .before .before .before .before .before .before .before in
     let a = s .args in

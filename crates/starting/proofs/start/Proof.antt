@@ -4,7 +4,7 @@ use denote.Ref.{now}
 use lib.ListN.{length}
 use Rattle.rules.specs.Rules.{each, inside, gain, offer}
 use Rattle.watching.specs.Watching.{watchIn}
-use Rattle.pushes.specs.States.{stateIn}
+use Rattle.pushes.specs.States.{stateIn, stateOf}
 use Rattle.starting.proofs.Starting.{start-some, start-none}
 use borrow.Author.Needs.{needs}
 use Rattle.starting.proofs.start.Statement.{statement}
@@ -50,7 +50,7 @@ same-length-6 : tie.Need-same-length-6
 same-length-6 c = search needs
 
 returns : tie.Need-returns
-unfolding stateIn
+unfolding stateOf stateIn
 returns c =
     let s = c .before .before .before .before .before .before .before .before .before .before .before .before .before .before .before .before .before .before .before .before .before .before .before .before .before .before .before .before .before .before .before .before .before .before .before .before .before .before .before .before .before .before in
     let a = s .args in

@@ -2,6 +2,7 @@
 use mathlib.Core.Path.{refl}
 use Rattle.numbers.specs.Choice.{if_then_else_}
 use Rattle.queue.specs.Waiting.{usual}
+use Rattle.rules.specs.Rules.{thresholdAfter}
 use borrow.Author.Needs.{needs}
 use Rattle.turns.proofs.adapt.Statement.{statement}
 use Rattle.turns.proofs.adapt.Tie as tie
@@ -10,11 +11,11 @@ adapt-requires : tie.Need-adapt-requires
 adapt-requires c κs = search needs
 
 returns : tie.Need-returns
-unfolding if_then_else_ usual
+unfolding thresholdAfter if_then_else_ usual
 returns c = record { threshold-is = rw (c .before .if1 .taken) (c .adapt .ensures .0); same-size = c .adapt .ensures .1 }
 
 returns-2 : tie.Need-returns-2
-unfolding if_then_else_ usual
+unfolding thresholdAfter if_then_else_ usual
 returns-2 c = record { threshold-is = rw (c .if1 .left); same-size = refl }
 
 pub adapt-spec : {M : Type 1} → statement M

@@ -3,10 +3,8 @@ use mathlib.Core.Path.{ap, _∙_}
 use denote.Ref.{now}
 use lib.ListN.{length}
 use Rattle.rules.specs.Rules.{visit, turn}
-use Rattle.rules.proofs.Due.{next-inside}
-use Rattle.pushes.specs.States.{stateIn}
+use Rattle.pushes.specs.States.{stateIn, stateOf, heldIn}
 use Rattle.turns.proofs.Moves.{queued-state}
-use Rattle.queue.proofs.Settle.{waiting-length}
 use borrow.Author.Needs.{needs}
 use Rattle.turns.proofs.turn.Statement.{statement}
 use Rattle.turns.proofs.turn.Tie as tie
@@ -15,13 +13,12 @@ pop-requires : tie.Need-pop-requires
 pop-requires c κs = (c .before .before .before .before .before .before .before .before .before .before .before .before .before .before .before .before .before .pre .0 .lent .heap, c .before .before .before .before .before .before .before .before .before .before .before .before .before .before .before .before .before .pre .1)
 
 visit-requires : tie.Need-visit-requires
-unfolding stateIn
+unfolding stateOf stateIn
 visit-requires c κs =
     let s = c .before .before .before .before .before .before .before .before .before .before .before .before .before .before .before .before .before .before .before .before .before .before .before .before .before .before .before .before .before .before .before in
     let a = s .args in
     let y = s .pre .0 in
     let o = c .before .before .before .before .before .before .before .before .before .before .before .before .before .pop in
-    let h = next-inside _ (o .result .node) (o .ensures .1 .priority) (o .ensures .1 .was-next) in
     let l = o .ensures .1 .left in (
       record {
         rows = y .rows;
@@ -29,7 +26,7 @@ visit-requires c κs =
         estimate-long = y .estimate-long;
         visited-room = y .visited-room;
       },
-      rw (waiting-length, y .lent .wide) at h,
+      rw (y .lent .wide) at (o .ensures .1 .inside),
       s .pre .2,
     )
 
@@ -52,7 +49,7 @@ same-length-6 : tie.Need-same-length-6
 same-length-6 c = search needs
 
 returns : tie.Need-returns
-unfolding turn stateIn
+unfolding turn stateOf stateIn
 returns c =
     let a = c .before .before .before .before .before .before .before .before .before .before .before .before .before .before .before .before .before .before .before .before .before .before .before .before .before .before .before .before .before .before .before .before .before .before .before .before .before .before .before .before .before .before .before .before .args in
     let o = c .before .before .before .before .before .before .before .before .before .before .before .before .before .before .before .before .before .before .before .before .before .before .before .before .before .before .pop in
@@ -67,8 +64,8 @@ returns c =
             state = λ way st.
                 v .ensures .state way st
                 ∙ ap (visit way (a .settings) (o .result .node))
-                (queued-state (length (now (a .degrees))) (o .result .node) (now (a .estimate)) (now (a .residual)) (a .p .queue) (o .result .queue) (a .p .pushes) (now (a .priorities))
-                (now (a .nodes)) (o .last .1 .0) (o .last .1 .1 .0) (now (a .visited)) (o .ensures .0) (o .ensures .1 .left .view));
+                (queued-state (length (now (a .degrees))) (o .result .node) (heldIn (a .p) (a .estimate) (a .residual) (a .priorities) (a .nodes) (a .queued) (a .visited))
+                (o .result .queue) (o .last .1 .0) (o .last .1 .1 .0) (o .ensures .0) (o .ensures .1 .left .view));
             beyond = v .ensures .beyond;
           };
     }

@@ -4,7 +4,7 @@ use mathlib.Core.Path.{refl, ap, _∙_}
 use denote.Ref.{now}
 use lib.ListN.{length}
 use Rattle.rules.specs.Rules.{counted}
-use Rattle.pushes.specs.States.{stateIn}
+use Rattle.pushes.specs.States.{progress, stateIn, held, stateOf}
 use Rattle.turns.proofs.Moves.{marks-beyond, counted-state}
 use Rattle.pushes.proofs.Standing.{weighs}
 use Rattle.turns.proofs.Visits.{visit-skips, visit-counts}
@@ -28,7 +28,7 @@ effective-requires : tie.Need-effective-requires
 effective-requires c κs = search needs
 
 returns : tie.Need-returns
-unfolding stateIn
+unfolding stateOf stateIn
 returns c =
     let s = c .before .before .before .before .before .before .before .before .before .before .before .before .before .before .before .before .before .before .before in
     let a = s .args in
@@ -75,7 +75,7 @@ same-length-6 : tie.Need-same-length-6
 same-length-6 c = search needs
 
 returns-2 : tie.Need-returns-2
-unfolding stateIn
+unfolding stateOf stateIn
 returns-2 c =
     let s = c .before .before .before .before .before .before .before .before .before .before .before .before .before .before .before .before .before .before .before .before .before .before .before .before .before .before .before .before .before .before .before .before .before .before .before .before .before .before .before .before .before in
     let a = s .args in
@@ -85,8 +85,8 @@ returns-2 c =
       lent = let l = o .ensures .lent in record { heap = rw (c .adapt .ensures .same-size) (l .heap); wide = l .wide; residual-long = l .residual-long };
       state = λ way st.
           let w = weighs (s .pre .0 .rows) way st (a .v) (s .pre .1) in
-          counted-state (a .settings) (length (now (a .degrees))) (a .v) _ _ (o .result) _ (a .p .pushes) _ _ _ (now (a .visited)) (m .last .0) (o .ensures .lent .heap) (c .adapt .ensures)
-          (m .ensures) (s .pre .1)
+          counted-state (a .settings) (length (now (a .degrees))) (a .v) (held (progress (o .result) (a .p .pushes)) _ _ _ _ _ (now (a .visited))) _ (m .last .0) (o .ensures .lent .heap)
+          (c .adapt .ensures) (m .ensures) (s .pre .1)
           ∙ ap (counted (a .settings) (a .v)) (o .ensures .state way st (a .p .pushes) (now (a .visited)))
           ∙ visit-counts way (a .settings) (a .v) _ _ _ w (c .before .before .before .before .before .before .before .before .before .before .before .before .before .before .before .before .before .before .before .before .before .before .before .before .effective .ensures) (c .before .before .before .before .before .before .before .before .before .before .before .before .before .before .before .before .before .before .before .before .before .before .if1 .left);
       beyond = marks-beyond (length (now (a .degrees))) (a .v) (now (a .visited)) (m .last .0) (m .ensures) (s .pre .1);

@@ -31,9 +31,9 @@ use Rattle.marks.specs.Marks.{howMany}
 use Rattle.graph.specs.Rows.{Link, link, kept, gives, rowOf, rowsOf, sumFrom, degree, into, intoFrom, transposed}
 use Rattle.queue.specs.Waiting.{waits, taken, answer, offered, better, bestFrom, next, usual, adapted}
 use Rattle.rules.specs.Ways.{pushForward, pushBackward, effective, transition, shareOf, wayOf, over, overLinks, degreeOf}
-use Rattle.rules.specs.Rules.{each, State, unwatched, watched, blank, queued, gain, absorb, counted, offer, pass, handOut, push}
-use Rattle.rules.specs.Rules.{stops, due, skips, visit, turn, onward, run, inside, watchable, begun, start, enough, solve}
-use Rattle.rules.specs.Answers.{visitedCount, scoreAt, extrapolated, combined, byDegrees, method, answerBy}
+use Rattle.rules.specs.Rules.{each, State, unwatched, watched, blank, queued, gain, absorb, thresholdAfter, counted, offer, pass, handOut, push}
+use Rattle.rules.specs.Rules.{stops, goesOn, due, skips, visit, turn, onward, run, inside, watchable, begun, start, enough, solve}
+use Rattle.rules.specs.Answers.{visitedCount, scoreAt, extrapolated, combined, byDegrees, methodAmong, method, answerBy}
 use Rattle.rules.specs.Cases.{Ending}
 use Rattle.rules.proofs.Ends.{run-add}
 
@@ -44,10 +44,11 @@ abbrev shown : State → Ending
 shown s = ending (s .pushes) (visitedCount s) (s .estimate) (s .residual)
 ";
 
-const UNFOLDING: &str = "unfolding if_then_else_ tabulate howMany kept gives rowOf rowsOf sumFrom degree into intoFrom transposed taken \
-answer offered better bestFrom next usual adapted effective transition shareOf wayOf over degreeOf each blank queued gain absorb \
-counted offer pass handOut push stops due skips visit turn onward run inside watchable begun start enough solve visitedCount \
-scoreAt extrapolated combined byDegrees method answerBy addSquares ofBits ofInt add sub mul div lt le odd";
+const UNFOLDING: &str = "unfolding if_then_else_ tabulate howMany kept gives rowOf rowsOf sumFrom degree into intoFrom \
+transposed taken answer offered better bestFrom next usual adapted effective transition shareOf wayOf over degreeOf each \
+blank queued gain absorb thresholdAfter counted offer pass handOut push stops goesOn due skips visit turn onward run \
+inside watchable begun start enough solve visitedCount scoreAt extrapolated combined byDegrees methodAmong method answerBy \
+addSquares ofBits ofInt add sub mul div lt le odd";
 
 /// A list as antt writes it.
 fn listed(items: impl IntoIterator<Item = String>) -> String {

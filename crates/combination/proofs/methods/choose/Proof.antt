@@ -11,8 +11,8 @@ use Rattle.numbers.specs.Numbers.{f64, _⊗_}
 use Rattle.numbers.specs.Choice.{if_then_else_}
 use Rattle.numbers.proofs.Tests.{both as all}
 use Rattle.rules.specs.Rules.{at}
-use Rattle.rules.specs.Answers.{backwardAlone, forwardAlone, both, byDegrees}
-use Rattle.combination.specs.Methods.{usesForward, usesBackward, methodBy, Follows}
+use Rattle.rules.specs.Answers.{backwardAlone, forwardAlone, both, byDegrees, methodAmong}
+use Rattle.combination.specs.Methods.{usesForward, usesBackward, Follows}
 use borrow.Author.Needs.{needs}
 use Rattle.combination.proofs.methods.choose.Statement.{statement}
 use Rattle.combination.proofs.methods.choose.Tie as tie
@@ -44,7 +44,7 @@ shared-slice-read-inward c =
     ltb-true (a .target) n (all (ltb (a .source) n) (ltb (a .target) n) (c .before .before .if2 .taken) .1)
 
 returns : tie.Need-returns
-unfolding methodBy byDegrees if_then_else_
+unfolding methodAmong byDegrees if_then_else_
 returns c =
     let a = c .before .before .before .before .args in
     let inward = at (now (a .in-degrees)) (a .target) in
@@ -53,11 +53,11 @@ returns c =
     rw (c .before .before .before .if1 .taken, c .before .before .if2 .taken) (by-degrees (lt (inward ⊗ two) outward) (lt (outward ⊗ two) inward))
 
 returns-2 : tie.Need-returns-2
-unfolding methodBy if_then_else_ usesForward usesBackward
+unfolding methodAmong if_then_else_ usesForward usesBackward
 returns-2 c = rw (c .before .if1 .taken, c .if2 .left) (record { forward-is = refl; backward-is = refl })
 
 returns-3 : tie.Need-returns-3
-unfolding methodBy if_then_else_ usesForward usesBackward
+unfolding if_then_else_ usesForward usesBackward
 returns-3 c = rw (c .if1 .left) (record { forward-is = refl; backward-is = refl })
 
 pub choose-spec : {M : Type 1} → statement M
