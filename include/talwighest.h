@@ -1,33 +1,57 @@
 /* SPDX-License-Identifier: MIT OR Apache-2.0
 
-   The public calls of Talwighest. include/check holds the names, the order and the types below to the Rattle source.
+   Talwighest: personalised PageRank by push. This header declares all public calls of the library.
 
-   To link: ./build, at the top of the repository, proves the library and makes the folder target/talwighest, which has all
-   that a program needs: this header, the archive libtalwighest.a with every call, and talwighest.pc for pkg-config. The folder
-   can be moved. The archive is for x86-64.
+   THE MODEL. A graph has n nodes, numbered 0 to n - 1, and links from node to node, each with a weight. A solve gives every
+   node a score, in the list `estimate`, and a remainder, in the list `residual`: the mass at the node that is not handed out
+   yet. A push takes the remainder of one node, adds the fraction alpha of it to the node's score, and hands out the rest to
+   the remainders of the node's neighbours. A forward solve starts with a mass of 1 at its sources and pushes along the
+   links, so its scores say how much of the mass ends at each node. A backward solve starts with a mass of 1 at its targets
+   and pushes against the links, so its scores say how strongly each node leads to a target.
+
+   LINKING. ./build, at the top of the repository, proves the library and makes the folder target/talwighest. The folder holds
+   everything that a program needs: this header, the archive libtalwighest.a with all calls, and talwighest.pc for pkg-config.
+   You can move the folder. The archive is for x86-64. Each of these commands compiles and links a program:
      cc program.c $(PKG_CONFIG_PATH=target/talwighest pkg-config --cflags --libs talwighest)
      cc program.c -Itarget/talwighest -Ltarget/talwighest -ltalwighest
+   Every name in this header, and every name that the archive exports, begins with talwighest_ or TALWIGHEST_.
 
-   Names: all begin with talwighest_ or TALWIGHEST_, here and in the archive.
+   GRAPHS. A call takes a graph in one of two forms. Each solve and query exists for both, with the endings _links and _rows.
+     links  A list of links in any order. Link i goes from node from[i] to node to[i] and has the weight weight[i]. The call
+            drops a link if either end is not below n, and keeps all others.
+     rows   The links sorted by the node that they leave. The links out of node v are links starts[v] to starts[v + 1] - 1.
+            Link i leads to node columns[i] and has the weight weights[i].
+   talwighest_from_edges makes rows from a list of links. Below, m is the number of links that a call is given: the length of
+   `from`, or of `columns` if the call takes rows.
 
-   Lists: a list is a pointer and its length. If the length is 0, the pointer may be NULL. In what follows n is the number of
-   nodes and m the number of listed links: the length of `from`, or of `columns` if the call takes rows. The length that each
-   list must have stands beside it, with what it is for:
-     read       the call reads it and leaves it as it was
-     answer     a call that is done has written all of it
-     workspace  a call that is done leaves it all zero
-   What an answer or workspace holds before the call doesn't matter. Lists that are lent to one call must not overlap.
+   LISTS. A list is a pointer and a length, counted in elements. The library allocates no memory. Instead, the caller lends
+   each call all its lists. The comment beside each list has the length that it must have, and one of these uses:
+     read       The call reads the list and does not change it.
+     answer     The call writes every element, unless it refuses.
+     workspace  The call needs the list while it runs. It leaves every element zero, unless it refuses.
+   Answer and workspace lists may hold anything before the call. If the length of a list is 0, its pointer may be NULL. If a
+   call writes a list (answer or workspace), that list must not overlap any other list of the same call. Lists of one type that
+   the call only reads may share memory.
 
-   Links: `from`, `to` and `weight` have one place for each link. A link is dropped if one of its ends is not below n.
-   Rows: the links of node v are at the places starts[v] to starts[v + 1] - 1 of `columns` (the nodes they lead to) and
-   `weights`.
+   REFUSALS. A call tests its input before it writes anything. If it returns 0 (TALWIGHEST_DONE), it has done its work.
+   Any other number is a refusal and says which test failed: the call makes the tests of enum talwighest_refusal in the order
+   of their numbers, and returns the number of the first test that fails. A refused call leaves every list as it was, and
+   returns counts of 0 and a score or norm of +0 (positive zero). The number is the result itself, or the field `refusal` of
+   the result. The comment above each call says which numbers it can refuse with.
 
-   Refusals: a call tests its input in the order of the numbers of enum talwighest_refusal and returns the first that applies,
-   with counts and scores of zero and no list altered. Beside each call stands which numbers it can return besides 0, which is
-   done. A source or target that is not a node is not refused: a solve from it leaves +0 everywhere with counts of 0, a query
-   gives +0, and in a list of sources or targets it is skipped and its share lost.
+   NODES OUT OF RANGE. A source or target is out of range if it is not below n. The calls do not refuse it:
+     - A solve from one source, or to one target, that is out of range leaves +0 in every element of `estimate` and
+       `residual`. The counts are 0 and the norm is +0.
+     - A solve with a list of sources or targets skips every entry that is out of range. The share of such an entry is lost.
+     - talwighest_solve_with_target_* and talwighest_solve_with_source_* start at one of their two nodes and watch the other.
+       If the watched node is out of range, they make no push: both lists, the counts and the norm are zero as above.
+     - A query returns the score +0 if either of its nodes is out of range. `estimate` and `residual` hold what its solve
+       gives. They are +0 everywhere if the solve starts out of range.
+     - talwighest_solve_bidirectional_* makes both solves. A solve that starts out of range leaves +0 in both of its lists.
+     - talwighest_adaptive_solve_* makes neither solve. It fills all four lists with +0 and returns the score +0.
 
-   docs/ENTRIES.md says more of each call, and docs/RULES.md has the rules. */
+   In the repository, docs/ENTRIES.md explains each call with examples, and docs/RULES.md has the exact rules. include/check
+   compares the names, types and order of the arguments below with the source of the library. */
 #ifndef TALWIGHEST_H
 #define TALWIGHEST_H
 
@@ -35,78 +59,83 @@
 #include <stddef.h>
 #include <stdint.h>
 
-/* CHANGELOG.md says what each version changed. */
-#define TALWIGHEST_VERSION "0.2.0"
+/* CHANGELOG.md, in the repository, says what each version changed. */
+#define TALWIGHEST_VERSION "0.2.1"
 #define TALWIGHEST_VERSION_MAJOR 0
 #define TALWIGHEST_VERSION_MINOR 2
-#define TALWIGHEST_VERSION_PATCH 0
+#define TALWIGHEST_VERSION_PATCH 1
 
 #ifdef __cplusplus
 extern "C" {
 #endif
 
-/* Why a call was refused. */
+/* What a call returns: 0 if it is done, or the reason why it refuses. A call makes only the tests that apply to its
+   arguments. -0.0 passes tests 5, 6 and 7. */
 enum talwighest_refusal {
-    TALWIGHEST_DONE = 0,              /* it was not */
-    TALWIGHEST_TOO_MANY_NODES = 1,    /* more than 65,536 nodes */
-    TALWIGHEST_TOO_MANY_LINKS = 2,    /* more than 1,048,576 links, or more than 65,536 sources or targets */
-    TALWIGHEST_WRONG_LENGTH = 3,      /* a list has another length than stated */
-    TALWIGHEST_UNSOUND_ROWS = 4,      /* starts don't begin at 0, fall somewhere or don't end at m, or a column is not
-                                         below n */
-    TALWIGHEST_UNSOUND_WEIGHT = 5,    /* a weight, of a dropped link too, is a NaN, infinite, below zero or above 1,048,576 */
-    TALWIGHEST_UNSOUND_SETTINGS = 6,  /* alpha is not in 0 to 1, epsilon or queue_threshold is not finite or below zero, or
-                                         max_pushes is above 1,000,000,000 */
-    TALWIGHEST_UNSOUND_PRECISION = 7  /* target_precision or source_precision is not finite or below zero */
+    TALWIGHEST_DONE = 0,              /* the call is not refused */
+    TALWIGHEST_TOO_MANY_NODES = 1,    /* there are more than 65,536 nodes */
+    TALWIGHEST_TOO_MANY_LINKS = 2,    /* there are more than 1,048,576 links, or more than 65,536 sources or targets */
+    TALWIGHEST_WRONG_LENGTH = 3,      /* a list does not have the length that is noted beside it */
+    TALWIGHEST_UNSOUND_ROWS = 4,      /* `starts` does not begin with 0, decreases somewhere or does not end with m, or a
+                                         column is not below n */
+    TALWIGHEST_UNSOUND_WEIGHT = 5,    /* a weight is a NaN, infinite, below zero or above 1,048,576, even if its link is
+                                         dropped */
+    TALWIGHEST_UNSOUND_SETTINGS = 6,  /* alpha is not from 0 to 1, epsilon or queue_threshold is not finite or is below zero,
+                                         or max_pushes is above 1,000,000,000 */
+    TALWIGHEST_UNSOUND_PRECISION = 7  /* target_precision or source_precision is not finite or is below zero */
 };
 
-/* The settings of a solve, which go by value; refusal 6 says what they may be. A node's priority is its residual over its
-   degree, or over 1 if the degree is less: at queue_threshold or above the node enters the queue with it, and keeps it there.
-   When the node leaves the queue, it is skipped if its residual is by then below epsilon times that degree, or times 1.
-   adaptive_threshold lets the threshold rise and fall with the queue's size; max_pushes ends the solve. */
+/* The settings of a solve, passed by value. Refusal 6 says which values are allowed. Nodes wait in a queue to be pushed. The
+   node with the highest priority leaves it first, and of equal ones the node with the highest number. The priority of a node
+   is its remainder / d at the time when it enters the queue. It does not change while the node waits. Here d is the node's
+   degree, or 1 if the degree is below 1. The degree is the sum of the weights of the links out of the node in a forward
+   solve, and of the links into the node in a backward solve. If the degree is 0, a push adds the rest back to the node's own
+   remainder. */
 struct talwighest_settings {
-    double alpha;
-    double epsilon;
-    double queue_threshold;
-    uint64_t max_pushes;
-    bool adaptive_threshold;
+    double alpha;            /* the fraction of a pushed remainder that becomes score */
+    double epsilon;          /* a node that leaves the queue is not pushed if its remainder is now below epsilon * d */
+    double queue_threshold;  /* a node enters the queue only if its priority is at least queue_threshold */
+    uint64_t max_pushes;     /* the solve ends after this many pushes, or earlier if the queue is empty */
+    bool adaptive_threshold; /* whether queue_threshold rises and falls with the size of the queue. Must hold 0 or 1 */
 };
 
-/* What a solve returns. residual_norm is the square root of the residual's squares, added from left to right. */
+/* What a solve returns. */
 struct talwighest_solved {
-    uint32_t refusal;
-    uint64_t push_count;
-    uint64_t nodes_visited;
-    double residual_norm;
+    uint32_t refusal;        /* 0, or a number of enum talwighest_refusal */
+    uint64_t push_count;     /* how many pushes the solve made */
+    uint64_t nodes_visited;  /* how many different nodes it pushed */
+    double residual_norm;    /* the norm of `residual`, as talwighest_compute_residual_norm returns it */
 };
 
-/* What a query returns. */
+/* What a call returns if its answer is a single score. */
 struct talwighest_scored {
-    uint32_t refusal;
+    uint32_t refusal;        /* 0, or a number of enum talwighest_refusal */
     double score;
 };
 
-/* What talwighest_from_edges returns: how many links are kept. */
+/* What talwighest_from_edges returns. */
 struct talwighest_built {
-    uint32_t refusal;
-    uint32_t kept;
+    uint32_t refusal;        /* 0, or a number of enum talwighest_refusal */
+    uint32_t kept;           /* how many links it kept */
 };
 
 /* ---- Square root and norm ---- */
 
-/* IEEE 754's square root: a NaN for a NaN and below zero, a zero and +infinity themselves, else the nearest number.
-   Refuses nothing. */
+/* Returns the IEEE 754 square root of x: the double nearest to the true root. Returns a NaN if x is a NaN or below zero, and
+   x itself if x is +0, -0 or +infinity. Refuses nothing. */
 double talwighest_square_root(double x);
 
-/* The square root of the squares, added from left to right from +0; +0 of nothing. n is any number.
-   Refuses nothing. */
+/* Returns the square root of the sum of the squares. Adds the squares from left to right, starting from +0. Returns +0 if the
+   list is empty. The length n may be any number. Refuses nothing. */
 double talwighest_compute_residual_norm(
     const double *residual, size_t residual_length              /* n; read */
 );
 
 /* ---- The graph store ---- */
 
-/* The rows of a list of links, each row in the order of the list. Past the kept links `columns` and `weights` are 0: hand them
-   on cut to the kept count. Refuses with 1, 2, 3 and 5. */
+/* Makes rows from a list of links. Each row keeps the order of the list. The elements of `columns` and `weights` past the
+   kept links are 0. They are not part of the rows: when you pass the rows to another call, pass `kept` as the length of both
+   lists. Refuses with 1, 2, 3 and 5. */
 struct talwighest_built talwighest_from_edges(
     uint32_t n,
     const uint32_t *from, size_t from_length,                   /* m; read */
@@ -118,8 +147,8 @@ struct talwighest_built talwighest_from_edges(
     uint32_t *positions, size_t positions_length                /* n; workspace */
 );
 
-/* The transposed rows of rows, and the degrees of both: the weights of each row, added from left to right from +0.
-   Refuses with 1 to 5. */
+/* Transposes rows as talwighest_transpose does, and computes the degrees of the rows and of the transposed rows as
+   talwighest_row_sums does. Refuses with 1 to 5. */
 uint32_t talwighest_from_matrix(
     uint32_t n,
     const uint32_t *starts, size_t starts_length,               /* n + 1; read */
@@ -133,7 +162,8 @@ uint32_t talwighest_from_matrix(
     uint32_t *positions, size_t positions_length                /* n; workspace */
 );
 
-/* The transposed rows alone, by rising row and inside it in row order. Refuses with 1 to 5. */
+/* Transposes rows: row v of the answer holds the links into node v, in the order of the nodes that they leave. Links that
+   leave the same node keep the order of its row. Refuses with 1 to 5. */
 uint32_t talwighest_transpose(
     uint32_t n,
     const uint32_t *starts, size_t starts_length,               /* n + 1; read */
@@ -145,7 +175,8 @@ uint32_t talwighest_transpose(
     uint32_t *positions, size_t positions_length                /* n; workspace */
 );
 
-/* The degrees alone. Refuses with 1 to 5. */
+/* Computes the degree of each row: the sum of its weights, added from left to right, starting from +0.
+   Refuses with 1 to 5. */
 uint32_t talwighest_row_sums(
     uint32_t n,
     const uint32_t *starts, size_t starts_length,               /* n + 1; read */
@@ -154,10 +185,11 @@ uint32_t talwighest_row_sums(
     double *degrees, size_t degrees_length                      /* n; answer */
 );
 
-/* ---- Forward: scores from sources ----
-   `estimate` gets the scores and `residual` what is not handed out yet. */
+/* ---- The forward solver ----
+   Each call writes the scores to `estimate` and the remainders to `residual`. A node that no source can reach by kept links
+   has the score +0 and the remainder +0. */
 
-/* From one source.
+/* Solves from one source.
    Refuses with 1, 2, 3, 5 and 6. */
 struct talwighest_solved talwighest_solve_single_source_links(
     uint32_t n,
@@ -178,7 +210,7 @@ struct talwighest_solved talwighest_solve_single_source_links(
     uint64_t *visited, size_t visited_length                    /* (n + 63) / 64; workspace */
 );
 
-/* The same of rows. Refuses with 1 to 6. */
+/* The same for a graph in rows. Refuses with 1 to 6. */
 struct talwighest_solved talwighest_solve_single_source_rows(
     uint32_t n,
     const uint32_t *starts, size_t starts_length,               /* n + 1; read */
@@ -195,7 +227,8 @@ struct talwighest_solved talwighest_solve_single_source_rows(
     uint64_t *visited, size_t visited_length                    /* (n + 63) / 64; workspace */
 );
 
-/* From a list of sources, each entry with mass 1 / sources_length.
+/* Solves from a list of sources. Each entry starts with a mass of 1 / sources_length, so a node that is listed twice gets two
+   shares. If the list is empty, every score and remainder is +0.
    Refuses with 1, 2, 3, 5 and 6. */
 struct talwighest_solved talwighest_solve_multi_source_links(
     uint32_t n,
@@ -216,7 +249,7 @@ struct talwighest_solved talwighest_solve_multi_source_links(
     uint64_t *visited, size_t visited_length                    /* (n + 63) / 64; workspace */
 );
 
-/* The same of rows. Refuses with 1 to 6. */
+/* The same for a graph in rows. Refuses with 1 to 6. */
 struct talwighest_solved talwighest_solve_multi_source_rows(
     uint32_t n,
     const uint32_t *starts, size_t starts_length,               /* n + 1; read */
@@ -233,8 +266,8 @@ struct talwighest_solved talwighest_solve_multi_source_rows(
     uint64_t *visited, size_t visited_length                    /* (n + 63) / 64; workspace */
 );
 
-/* From one source, until the target's estimate is above target_precision and its residual below a tenth of that. Nothing is
-   pushed if the target is not a node.
+/* Solves from one source, and stops early as soon as the target's score is above target_precision and its remainder is below
+   target_precision * 0.1. If either node is out of range, it makes no push (see NODES OUT OF RANGE above).
    Refuses with 1, 2, 3, 5, 6 and 7. */
 struct talwighest_solved talwighest_solve_with_target_links(
     uint32_t n,
@@ -257,7 +290,7 @@ struct talwighest_solved talwighest_solve_with_target_links(
     uint64_t *visited, size_t visited_length                    /* (n + 63) / 64; workspace */
 );
 
-/* The same of rows. Refuses with 1 to 7. */
+/* The same for a graph in rows. Refuses with 1 to 7. */
 struct talwighest_solved talwighest_solve_with_target_rows(
     uint32_t n,
     const uint32_t *starts, size_t starts_length,               /* n + 1; read */
@@ -276,7 +309,7 @@ struct talwighest_solved talwighest_solve_with_target_rows(
     uint64_t *visited, size_t visited_length                    /* (n + 63) / 64; workspace */
 );
 
-/* The target's score from one source; `estimate` and `residual` get what the solve gives.
+/* Solves from one source and returns the score of the target. Writes the scores and remainders of that solve too.
    Refuses with 1, 2, 3, 5 and 6. */
 struct talwighest_scored talwighest_query_single_entry_links(
     uint32_t n,
@@ -298,7 +331,7 @@ struct talwighest_scored talwighest_query_single_entry_links(
     uint64_t *visited, size_t visited_length                    /* (n + 63) / 64; workspace */
 );
 
-/* The same of rows. Refuses with 1 to 6. */
+/* The same for a graph in rows. Refuses with 1 to 6. */
 struct talwighest_scored talwighest_query_single_entry_rows(
     uint32_t n,
     const uint32_t *starts, size_t starts_length,               /* n + 1; read */
@@ -316,7 +349,7 @@ struct talwighest_scored talwighest_query_single_entry_rows(
     uint64_t *visited, size_t visited_length                    /* (n + 63) / 64; workspace */
 );
 
-/* estimate + alpha * residual for each node. n is estimate_length. Refuses with 1, 3 and 6. */
+/* Writes estimate + alpha * residual for each node. Here n is estimate_length. Refuses with 1, 3 and 6. */
 uint32_t talwighest_extrapolated_solution(
     const double *estimate, size_t estimate_length,             /* n; read */
     const double *residual, size_t residual_length,             /* n; read */
@@ -324,10 +357,11 @@ uint32_t talwighest_extrapolated_solution(
     double *solution, size_t solution_length                    /* n; answer */
 );
 
-/* ---- Backward: scores to targets ----
-   `estimate` gets the scores and `residual` what is not handed out yet. */
+/* ---- The backward solver ----
+   Each call writes the scores to `estimate` and the remainders to `residual`. A node that can reach no target by kept links
+   has the score +0 and the remainder +0. */
 
-/* To one target.
+/* Solves to one target.
    Refuses with 1, 2, 3, 5 and 6. */
 struct talwighest_solved talwighest_solve_single_target_links(
     uint32_t n,
@@ -352,7 +386,7 @@ struct talwighest_solved talwighest_solve_single_target_links(
     uint64_t *visited, size_t visited_length                    /* (n + 63) / 64; workspace */
 );
 
-/* The same of rows. Refuses with 1 to 6. */
+/* The same for a graph in rows. Refuses with 1 to 6. */
 struct talwighest_solved talwighest_solve_single_target_rows(
     uint32_t n,
     const uint32_t *starts, size_t starts_length,               /* n + 1; read */
@@ -373,7 +407,8 @@ struct talwighest_solved talwighest_solve_single_target_rows(
     uint64_t *visited, size_t visited_length                    /* (n + 63) / 64; workspace */
 );
 
-/* To a list of targets, each entry with mass 1 / targets_length.
+/* Solves to a list of targets. Each entry starts with a mass of 1 / targets_length, so a node that is listed twice gets two
+   shares. If the list is empty, every score and remainder is +0.
    Refuses with 1, 2, 3, 5 and 6. */
 struct talwighest_solved talwighest_solve_multi_target_links(
     uint32_t n,
@@ -398,7 +433,7 @@ struct talwighest_solved talwighest_solve_multi_target_links(
     uint64_t *visited, size_t visited_length                    /* (n + 63) / 64; workspace */
 );
 
-/* The same of rows. Refuses with 1 to 6. */
+/* The same for a graph in rows. Refuses with 1 to 6. */
 struct talwighest_solved talwighest_solve_multi_target_rows(
     uint32_t n,
     const uint32_t *starts, size_t starts_length,               /* n + 1; read */
@@ -419,8 +454,8 @@ struct talwighest_solved talwighest_solve_multi_target_rows(
     uint64_t *visited, size_t visited_length                    /* (n + 63) / 64; workspace */
 );
 
-/* To one target, until the source's estimate is above source_precision and its residual below a tenth of that. Nothing is
-   pushed if the source is not a node.
+/* Solves to one target, and stops early as soon as the source's score is above source_precision and its remainder is below
+   source_precision * 0.1. If either node is out of range, it makes no push (see NODES OUT OF RANGE above).
    Refuses with 1, 2, 3, 5, 6 and 7. */
 struct talwighest_solved talwighest_solve_with_source_links(
     uint32_t n,
@@ -447,7 +482,7 @@ struct talwighest_solved talwighest_solve_with_source_links(
     uint64_t *visited, size_t visited_length                    /* (n + 63) / 64; workspace */
 );
 
-/* The same of rows. Refuses with 1 to 7. */
+/* The same for a graph in rows. Refuses with 1 to 7. */
 struct talwighest_solved talwighest_solve_with_source_rows(
     uint32_t n,
     const uint32_t *starts, size_t starts_length,               /* n + 1; read */
@@ -470,7 +505,7 @@ struct talwighest_solved talwighest_solve_with_source_rows(
     uint64_t *visited, size_t visited_length                    /* (n + 63) / 64; workspace */
 );
 
-/* The source's score to one target; `estimate` and `residual` get what the solve gives.
+/* Solves to one target and returns the score of the source. Writes the scores and remainders of that solve too.
    Refuses with 1, 2, 3, 5 and 6. */
 struct talwighest_scored talwighest_query_transition_probability_links(
     uint32_t n,
@@ -496,7 +531,7 @@ struct talwighest_scored talwighest_query_transition_probability_links(
     uint64_t *visited, size_t visited_length                    /* (n + 63) / 64; workspace */
 );
 
-/* The same of rows. Refuses with 1 to 6. */
+/* The same for a graph in rows. Refuses with 1 to 6. */
 struct talwighest_scored talwighest_query_transition_probability_rows(
     uint32_t n,
     const uint32_t *starts, size_t starts_length,               /* n + 1; read */
@@ -518,7 +553,7 @@ struct talwighest_scored talwighest_query_transition_probability_rows(
     uint64_t *visited, size_t visited_length                    /* (n + 63) / 64; workspace */
 );
 
-/* To one target; `solution` gets estimate + alpha * residual for each node. Returns the refusal.
+/* Solves to one target, and writes estimate + alpha * residual for each node into `solution`. Returns the refusal number.
    Refuses with 1, 2, 3, 5 and 6. */
 uint32_t talwighest_reachability_probabilities_links(
     uint32_t n,
@@ -544,7 +579,7 @@ uint32_t talwighest_reachability_probabilities_links(
     uint64_t *visited, size_t visited_length                    /* (n + 63) / 64; workspace */
 );
 
-/* The same of rows. Refuses with 1 to 6. */
+/* The same for a graph in rows. Refuses with 1 to 6. */
 uint32_t talwighest_reachability_probabilities_rows(
     uint32_t n,
     const uint32_t *starts, size_t starts_length,               /* n + 1; read */
@@ -566,21 +601,25 @@ uint32_t talwighest_reachability_probabilities_rows(
     uint64_t *visited, size_t visited_length                    /* (n + 63) / 64; workspace */
 );
 
-/* ---- Both together ---- */
+/* ---- Both solvers together ---- */
 
-/* Added from +0, node by node: the product of the estimates, then backward_residual * forward_estimate * alpha, then
-   backward_estimate * forward_residual * alpha; alpha is the backward solve's. n is
-   backward_estimate_length. Refuses with 1, 3 and 6. */
+/* Computes one score from a backward solve to a target and a forward solve from a source. Starts from +0, and adds for each
+   node in turn:
+     1. backward_estimate * forward_estimate
+     2. backward_residual * forward_estimate * alpha
+     3. backward_estimate * forward_residual * alpha
+   Pass the alpha of the backward solve. Here n is backward_estimate_length. Refuses with 1, 3 and 6. */
 struct talwighest_scored talwighest_combine_with_forward(
-    const double *backward_estimate, size_t backward_estimate_length,/* n; read */
-    const double *backward_residual, size_t backward_residual_length,/* n; read */
-    const double *forward_estimate, size_t forward_estimate_length,/* n; read */
-    const double *forward_residual, size_t forward_residual_length,/* n; read */
+    const double *backward_estimate, size_t backward_estimate_length, /* n; read */
+    const double *backward_residual, size_t backward_residual_length, /* n; read */
+    const double *forward_estimate, size_t forward_estimate_length, /* n; read */
+    const double *forward_residual, size_t forward_residual_length, /* n; read */
     double alpha
 );
 
-/* A forward solve from the source and a backward one to the target, combined as by talwighest_combine_with_forward.
-   Refuses with 1, 2, 3, 5 and 6. */
+/* Solves forward from the source and backward to the target, and combines the two as talwighest_combine_with_forward does,
+   with the alpha of backward_settings. Writes the scores and remainders of both solves too.
+   Refuses with 1, 2, 3, 5 and 6. Either settings record can give 6. */
 struct talwighest_scored talwighest_solve_bidirectional_links(
     uint32_t n,
     const uint32_t *from, size_t from_length,                   /* m; read */
@@ -608,7 +647,7 @@ struct talwighest_scored talwighest_solve_bidirectional_links(
     uint64_t *visited, size_t visited_length                    /* (n + 63) / 64; workspace */
 );
 
-/* The same of rows. Refuses with 1 to 6. */
+/* The same for a graph in rows. Refuses with 1 to 6. Either settings record can give 6. */
 struct talwighest_scored talwighest_solve_bidirectional_rows(
     uint32_t n,
     const uint32_t *starts, size_t starts_length,               /* n + 1; read */
@@ -633,10 +672,14 @@ struct talwighest_scored talwighest_solve_bidirectional_rows(
     uint64_t *visited, size_t visited_length                    /* (n + 63) / 64; workspace */
 );
 
-/* By the degrees: if out(source) > 2 * in(target), the source's score of the backward solve alone; else if in(target) >
-   2 * out(source), the target's of the forward one alone; else as talwighest_solve_bidirectional_links. The pair of a solve
-   that isn't made gets +0 everywhere.
-   Refuses with 1, 2, 3, 5 and 6. */
+/* Chooses one solve or both by two degrees: out, the sum of the weights of the links out of the source, and in, the sum of
+   the weights of the links into the target.
+     - If out > 2 * in, it makes the backward solve alone and returns the score of the source.
+     - If in > 2 * out, it makes the forward solve alone and returns the score of the target.
+     - Otherwise it does the same as talwighest_solve_bidirectional_links.
+   If it does not make a solve, it fills both lists of that solve with +0. If either node is out of range, it makes neither
+   solve (see NODES OUT OF RANGE above).
+   Refuses with 1, 2, 3, 5 and 6. Either settings record can give 6. */
 struct talwighest_scored talwighest_adaptive_solve_links(
     uint32_t n,
     const uint32_t *from, size_t from_length,                   /* m; read */
@@ -664,7 +707,7 @@ struct talwighest_scored talwighest_adaptive_solve_links(
     uint64_t *visited, size_t visited_length                    /* (n + 63) / 64; workspace */
 );
 
-/* The same of rows. Refuses with 1 to 6. */
+/* The same for a graph in rows. Refuses with 1 to 6. Either settings record can give 6. */
 struct talwighest_scored talwighest_adaptive_solve_rows(
     uint32_t n,
     const uint32_t *starts, size_t starts_length,               /* n + 1; read */

@@ -48,9 +48,14 @@ pub struct OwnedRows {
 impl OwnedRows {
     /// The rows, to be given to a call.
     pub fn rows(&self) -> Rows<'_> {
-        let n = self.starts.len().saturating_sub(1) as u32;
-        Rows { n, starts: &self.starts, columns: &self.columns, weights: &self.weights }
+        Rows { n: nodes(self.starts.len()), starts: &self.starts, columns: &self.columns, weights: &self.weights }
     }
+}
+
+/// The number of nodes that have so many starts. One that no u32 holds is far past the limit, and so is the largest u32, which a
+/// call refuses for that; cut to its last digits it might pass.
+fn nodes(starts: usize) -> u32 {
+    u32::try_from(starts.saturating_sub(1)).unwrap_or(u32::MAX)
 }
 
 /// What `from_matrix` makes of rows.
@@ -59,4 +64,21 @@ pub struct Matrix {
     pub reverse: OwnedRows,
     pub degrees: Vec<f64>,
     pub reverse_degrees: Vec<f64>,
+}
+
+#[cfg(test)]
+mod tests {
+    use super::nodes;
+    use crate::{Refusal, Rows};
+
+    #[test]
+    fn a_number_of_nodes_is_not_cut() {
+        assert_eq!([0, 1, 2, 65_537, 65_538].map(nodes), [0, 0, 1, 65_536, 65_537]);
+        // The list itself would take 16 GiB.
+        for starts in [1 << 32, (1 << 32) + 1, (1 << 32) + 3, usize::MAX] {
+            let n = nodes(starts);
+            let rows = Rows { n, starts: &[0], columns: &[], weights: &[] };
+            assert_eq!((n, rows.row_sums().err()), (u32::MAX, Some(Refusal::TooManyNodes)));
+        }
+    }
 }

@@ -3,6 +3,7 @@
 mod answers;
 pub mod entries;
 mod graph;
+mod pointers;
 mod refusal;
 mod solves;
 mod space;

@@ -12,7 +12,7 @@ pub enum Refusal {
     TooManyLinks = 2,
     /// A list has another length than stated.
     WrongLength = 3,
-    /// Starts don't begin at 0, fall somewhere or don't end at the number of links, or a column is no node.
+    /// Starts don't begin at 0, fall somewhere or don't end at the number of links, or a column is not below the node count.
     UnsoundRows = 4,
     /// A weight, of a dropped link too, is a NaN, infinite, below zero or above 1,048,576.
     UnsoundWeight = 5,
@@ -53,7 +53,7 @@ impl Display for Refusal {
             Self::TooManyNodes => "more than 65,536 nodes",
             Self::TooManyLinks => "more than 1,048,576 links, or more than 65,536 sources or targets",
             Self::WrongLength => "a list has another length than stated",
-            Self::UnsoundRows => "the starts of rows are not in order, or a column is no node",
+            Self::UnsoundRows => "the starts of rows are not in order, or a column is not a node",
             Self::UnsoundWeight => "a weight is not from 0 to 1,048,576",
             Self::UnsoundSettings => {
                 "alpha is not from 0 to 1, epsilon or queue_threshold is not from 0 up, or max_pushes is above 1,000,000,000"

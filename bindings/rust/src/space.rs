@@ -12,7 +12,7 @@ pub struct Size {
 }
 
 impl Size {
-    /// Past the limits none are made: a call refuses such numbers before it looks at lengths.
+    /// Past a limit, the size of a graph with no nodes and no links: a call refuses such a number before it looks at lengths.
     pub fn of(n: u32, links: usize) -> Self {
         if n > MOST_NODES || links > MOST_LINKS {
             return Self { nodes: 0, links: 0 };

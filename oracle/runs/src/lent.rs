@@ -12,6 +12,10 @@ const GUARD: usize = 5;
 pub trait Word: Copy {
     fn of(bits: u64) -> Self;
     fn bits(self) -> u64;
+    /// The pattern in a place, of bits that no other place has.
+    fn patterned(_place: usize, bits: u64) -> Self {
+        Self::of(bits)
+    }
 }
 
 impl Word for u32 {
@@ -39,11 +43,22 @@ impl Word for f64 {
     fn bits(self) -> u64 {
         self.to_bits()
     }
+    /// In two places of three a NaN, of either sign: arithmetic, and some ways to copy a number, turn a signalling one into a
+    /// quiet one, or one NaN into another.
+    fn patterned(place: usize, bits: u64) -> Self {
+        const EXPONENT: u64 = 0x7ff << 52;
+        const QUIET: u64 = 1 << 51;
+        f64::from_bits(match place % 3 {
+            0 => (bits | EXPONENT | 1) & !QUIET,
+            1 => bits | EXPONENT | QUIET,
+            _ => bits,
+        })
+    }
 }
 
 /// The pattern: another word in each place, never 0, so that words that only change places are seen too.
 fn pattern<T: Word>(place: usize) -> T {
-    T::of((place as u64 + 1).wrapping_mul(0x9e37_79b9_7f4a_7c15))
+    T::patterned(place, (place as u64 + 1).wrapping_mul(0x9e37_79b9_7f4a_7c15))
 }
 
 /// The side on which every buffer of this run touches memory that nothing may touch; on neither where it is not set.

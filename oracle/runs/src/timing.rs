@@ -1,7 +1,7 @@
 //! Times two sides in turn, in one run, so that what else the machine does meets both.
 use std::time::{Duration, Instant};
 
-/// A median, and the tenth and the ninetieth hundredth around it.
+/// A median, with the 10th and the 90th percentile.
 #[derive(Clone, Copy)]
 pub struct Spread {
     pub low: f64,
@@ -53,7 +53,7 @@ pub fn elapsed(mut work: impl FnMut()) -> Duration {
 impl Spread {
     fn of(mut values: Vec<f64>) -> Self {
         values.sort_by(f64::total_cmp);
-        let hundredth = |part: usize| values[(values.len() - 1) * part / 100];
-        Self { low: hundredth(10), median: hundredth(50), high: hundredth(90) }
+        let percentile = |part: usize| values[(values.len() - 1) * part / 100];
+        Self { low: percentile(10), median: percentile(50), high: percentile(90) }
     }
 }

@@ -1,5 +1,6 @@
 //! Declares functions of the archive, each with a safe function over it. The archive has them with the prefix `talwighest_`,
-//! so that a program may have names such as `transpose` of its own.
+//! so that a program may have names such as `transpose` of its own. The crate that has this module says in `pointers` where a list
+//! begins.
 
 /// A declaration is read from the left: each parameter gives the words that the library's function takes for it, so that
 /// a list is a pointer and a length, and a record of lists those of each in turn.
@@ -27,47 +28,47 @@ macro_rules! exported {
     };
     (@ $name:ident ($p:ident: &[$t:ty] $(, $($rest:tt)*)?) -> $result:ty, [$($read:tt)*] [$($words:tt)*]) => {
         exported!(@ $name ($($($rest)*)?) -> $result, [$($read)* $p: &[$t],]
-            [$($words)* *const $t = $p.as_ptr(), usize = $p.len(),]);
+            [$($words)* *const $t = crate::pointers::read($p), usize = $p.len(),]);
     };
     (@ $name:ident ($p:ident: &mut [$t:ty] $(, $($rest:tt)*)?) -> $result:ty, [$($read:tt)*] [$($words:tt)*]) => {
         exported!(@ $name ($($($rest)*)?) -> $result, [$($read)* $p: &mut [$t],]
-            [$($words)* *mut $t = $p.as_mut_ptr(), usize = $p.len(),]);
+            [$($words)* *mut $t = crate::pointers::written($p), usize = $p.len(),]);
     };
     (@ $name:ident ($p:ident: Links $(, $($rest:tt)*)?) -> $result:ty, [$($read:tt)*] [$($words:tt)*]) => {
         exported!(@ $name ($($($rest)*)?) -> $result, [$($read)* $p: Links,] [$($words)*
             u32 = $p.n,
-            *const u32 = $p.from.as_ptr(), usize = $p.from.len(),
-            *const u32 = $p.to.as_ptr(), usize = $p.to.len(),
-            *const f64 = $p.weight.as_ptr(), usize = $p.weight.len(),
+            *const u32 = crate::pointers::read($p.from), usize = $p.from.len(),
+            *const u32 = crate::pointers::read($p.to), usize = $p.to.len(),
+            *const f64 = crate::pointers::read($p.weight), usize = $p.weight.len(),
         ]);
     };
     (@ $name:ident ($p:ident: Rows $(, $($rest:tt)*)?) -> $result:ty, [$($read:tt)*] [$($words:tt)*]) => {
         exported!(@ $name ($($($rest)*)?) -> $result, [$($read)* $p: Rows,] [$($words)*
             u32 = $p.n,
-            *const u32 = $p.starts.as_ptr(), usize = $p.starts.len(),
-            *const u32 = $p.columns.as_ptr(), usize = $p.columns.len(),
-            *const f64 = $p.weights.as_ptr(), usize = $p.weights.len(),
+            *const u32 = crate::pointers::read($p.starts), usize = $p.starts.len(),
+            *const u32 = crate::pointers::read($p.columns), usize = $p.columns.len(),
+            *const f64 = crate::pointers::read($p.weights), usize = $p.weights.len(),
         ]);
     };
     (@ $name:ident ($p:ident: Pair $(, $($rest:tt)*)?) -> $result:ty, [$($read:tt)*] [$($words:tt)*]) => {
         exported!(@ $name ($($($rest)*)?) -> $result, [$($read)* $p: Pair,] [$($words)*
-            *mut f64 = $p.estimate.as_mut_ptr(), usize = $p.estimate.len(),
-            *mut f64 = $p.residual.as_mut_ptr(), usize = $p.residual.len(),
+            *mut f64 = crate::pointers::written($p.estimate), usize = $p.estimate.len(),
+            *mut f64 = crate::pointers::written($p.residual), usize = $p.residual.len(),
         ]);
     };
     (@ $name:ident ($p:ident: RowBuffers $(, $($rest:tt)*)?) -> $result:ty, [$($read:tt)*] [$($words:tt)*]) => {
         exported!(@ $name ($($($rest)*)?) -> $result, [$($read)* $p: RowBuffers,] [$($words)*
-            *mut u32 = $p.starts.as_mut_ptr(), usize = $p.starts.len(),
-            *mut u32 = $p.columns.as_mut_ptr(), usize = $p.columns.len(),
-            *mut f64 = $p.weights.as_mut_ptr(), usize = $p.weights.len(),
+            *mut u32 = crate::pointers::written($p.starts), usize = $p.starts.len(),
+            *mut u32 = crate::pointers::written($p.columns), usize = $p.columns.len(),
+            *mut f64 = crate::pointers::written($p.weights), usize = $p.weights.len(),
         ]);
     };
     (@ $name:ident ($p:ident: QueueBuffers $(, $($rest:tt)*)?) -> $result:ty, [$($read:tt)*] [$($words:tt)*]) => {
         exported!(@ $name ($($($rest)*)?) -> $result, [$($read)* $p: QueueBuffers,] [$($words)*
-            *mut f64 = $p.priorities.as_mut_ptr(), usize = $p.priorities.len(),
-            *mut u32 = $p.nodes.as_mut_ptr(), usize = $p.nodes.len(),
-            *mut u64 = $p.queued.as_mut_ptr(), usize = $p.queued.len(),
-            *mut u64 = $p.visited.as_mut_ptr(), usize = $p.visited.len(),
+            *mut f64 = crate::pointers::written($p.priorities), usize = $p.priorities.len(),
+            *mut u32 = crate::pointers::written($p.nodes), usize = $p.nodes.len(),
+            *mut u64 = crate::pointers::written($p.queued), usize = $p.queued.len(),
+            *mut u64 = crate::pointers::written($p.visited), usize = $p.visited.len(),
         ]);
     };
 }

@@ -2,6 +2,8 @@
 use std::env;
 use std::fs::{self, File};
 use std::io::{self, ErrorKind, Read, Write};
+use std::os::fd::OwnedFd;
+use std::os::unix::net::UnixStream;
 use std::path::{Path, PathBuf};
 use std::process::{self, Child, ChildStdin, Command, ExitStatus, Stdio};
 use std::sync::atomic::{AtomicU64, Ordering::Relaxed};
@@ -28,6 +30,12 @@ pub enum Way {
     Pieces(usize),
     /// As a file.
     File,
+    /// Through a socket, where the read after the last of these bytes fails.
+    Failing,
+    /// Not at all: standard input is a folder, so that the first read fails.
+    Folder,
+    /// Not at all: standard input is closed.
+    Closed,
 }
 
 /// What a program printed, and how it ended.
@@ -55,6 +63,11 @@ impl Program {
         Self { words: vec![root().join("target/oracle/cargo/release/rust_job")] }
     }
 
+    /// Whether an emulator runs it.
+    pub fn is_emulated(&self) -> bool {
+        self.words.len() > 1
+    }
+
     pub fn run(&self, bytes: &[u8], way: Way) -> Printed {
         match way {
             Way::Pipe => self.fed(|pipe| pipe.write_all(bytes)),
@@ -72,6 +85,22 @@ impl Program {
                 fs::remove_file(&path).expect("the file can go while it is open");
                 self.started(file.into()).finished()
             }
+            Way::Failing => {
+                let mut read = Vec::new();
+                let failed = failing(bytes).read_to_end(&mut read);
+                assert!(failed.is_err() && read == bytes, "the socket gives the bytes, and then fails");
+                self.started(OwnedFd::from(failing(bytes)).into()).finished()
+            }
+            Way::Folder => {
+                let mut folder = File::open(root()).expect("a folder can be opened");
+                assert!(folder.read(&mut [0]).is_err(), "a folder cannot be read");
+                self.started(folder.into()).finished()
+            }
+            Way::Closed => {
+                let mut command = Command::new("sh");
+                command.args(["-c", "exec \"$@\" <&-", "sh"]).args(&self.words);
+                Started::of(command, Stdio::null()).finished()
+            }
         }
     }
 
@@ -88,15 +117,29 @@ impl Program {
 
     fn started(&self, input: Stdio) -> Started {
         let mut command = Command::new(&self.words[0]);
-        command.args(&self.words[1..]).stdin(input).stdout(Stdio::piped());
-        Started(command.spawn().expect("the program starts"))
+        command.args(&self.words[1..]);
+        Started::of(command, input)
     }
+}
+
+/// A socket that gives these bytes and then fails to be read: its other end is closed with a byte that it hasn't read, which Linux
+/// tells the reader as a connection that was reset.
+fn failing(bytes: &[u8]) -> UnixStream {
+    let (mut ours, mut theirs) = UnixStream::pair().expect("two sockets");
+    ours.write_all(&[0]).expect("a byte can be sent");
+    theirs.write_all(bytes).expect("the bytes have room");
+    ours
 }
 
 /// A program that has been started.
 struct Started(Child);
 
 impl Started {
+    fn of(mut command: Command, input: Stdio) -> Self {
+        command.stdin(input).stdout(Stdio::piped());
+        Self(command.spawn().expect("the program starts"))
+    }
+
     fn finished(mut self) -> Printed {
         let mut text = Vec::new();
         self.0.stdout.take().expect("a pipe").read_to_end(&mut text).expect("the text can be read");

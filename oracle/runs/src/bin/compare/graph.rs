@@ -2,14 +2,14 @@
 //! and against the refusals of docs/RULES.md. Each call is compared whole: what it returns, and every word of every buffer.
 mod expected;
 
-use crate::calls::made::Made;
+use crate::calls::made::{self, Made};
 use crate::calls::smaller::smaller;
 use crate::calls::sound::{MOST_LINKS, MOST_NODES};
-use crate::calls::{damaged, limits, lists};
+use crate::calls::{damaged, empty, limits, lists, sharing};
 use crate::Asked;
 use repaired::graph::PushGraph;
 use runs::calls::call::Call;
-use runs::calls::entry::{Entry, BUILDERS};
+use runs::calls::entry::{Entry, Form, BUILDERS};
 use runs::calls::given::{graph_of_links, matrix};
 use runs::calls::outcome::Outcome;
 use runs::calls::refusal::{misread, refusal};
@@ -24,6 +24,7 @@ pub fn compare(asked: &Asked, comparison: &mut Comparison, random: &mut Random) 
     refusals(asked, comparison, random);
     random_lists(asked, comparison, random);
     random_rows(asked, comparison, random);
+    sharing(asked, comparison, random);
     largest(comparison);
 }
 
@@ -72,12 +73,13 @@ fn random_rows(asked: &Asked, comparison: &mut Comparison, random: &mut Random) 
 
 fn refusals(asked: &Asked, comparison: &mut Comparison, random: &mut Random) {
     for entry in BUILDERS {
+        damaged::compare_each(entry, comparison, of_call);
+        empty::compare(entry, comparison, of_call);
         let mut kind = |name: &str, inputs: &mut dyn Iterator<Item = Call>| {
             comparison.kind(&format!("{}, {name}", entry.name()), inputs, of_call, smaller);
         };
         kind("limits of weight, in each place", &mut limits::weights(entry).into_iter());
         kind("each length, and each two", &mut limits::lengths(entry).into_iter());
-        kind("each damage", &mut damaged::singles(entry).into_iter());
         kind("each two damages", &mut damaged::pairs(entry, !asked.short));
         let all = damaged::damages(entry);
         let several = (0..asked.size(2_000, 50_000)).map(|_| damaged::several(random, entry, &all));
@@ -86,6 +88,14 @@ fn refusals(asked: &Asked, comparison: &mut Comparison, random: &mut Random) {
             kind("every rows of up to 3 nodes and 3 links, sound or not", &mut limits::every_rows(entry, 3, 3));
         }
     }
+}
+
+fn sharing(asked: &Asked, comparison: &mut Comparison, random: &mut Random) {
+    let count = asked.size(2_000, 50_000).max(200);
+    let inputs = (0..count).map(|number| sharing::drawn(random, if number % 4 == 0 { Form::Links } else { Form::Rows }));
+    made::forget();
+    comparison.kind("graph, lists to be read that share memory", inputs, of_shared, smaller);
+    comparison.reached("graph, lists that shared memory", &made::shared(false));
 }
 
 /// These come last: what fails elsewhere too is found there at a smaller input.
@@ -124,6 +134,16 @@ fn on_rows_of(graph: &PushGraph) -> Option<String> {
 /// One call of any kind.
 fn of_call(call: &Call) -> Option<String> {
     Made::of(call).difference(&expected::outcome(call))
+}
+
+/// Each entry that takes what the call is given, in lists by themselves and in lists that share memory.
+fn of_shared(call: &Call) -> Option<String> {
+    let alike = |entry: &&Entry| entry.takes_rows() == call.entry.takes_rows();
+    BUILDERS.iter().filter(alike).find_map(|&entry| {
+        let call = Call { entry, ..call.clone() }.with_stated_lengths();
+        let outcome = expected::outcome(&call);
+        Made::of(&call).difference(&outcome).or_else(|| Made::sharing(&call).difference(&outcome))
+    })
 }
 
 /// A call whose number docs/RULES.md gives: what is expected of damaged calls is held to it too.

@@ -50,6 +50,7 @@ pub fn compare(asked: &Asked, comparison: &mut Comparison, random: &mut Random) 
     kind("a bit turned in each place", &mut damaged::bits().into_iter().step_by(asked.one_in()));
     kind("several bytes exchanged", &mut damaged::several(random, asked.size(3_000, 60_000)));
     kind("read in pieces, and from a file", &mut drawn::ways(random, asked.size(60, 600)));
+    kind("a read that fails, before the end or behind it", &mut damaged::failing(&jobs.program).into_iter());
     let thousands = drawn::thousands(random, asked.size(300, 6_000));
     kind("thousands of pushes, threshold falling or not", &mut thousands.into_iter());
     kind("queues at the size where the threshold adapts", &mut drawn::queue_sizes().into_iter());

@@ -5,10 +5,10 @@ mod boundaries;
 mod expected;
 mod watched;
 
-use crate::calls::made::Made;
+use crate::calls::made::{self, Made};
 use crate::calls::smaller::smaller;
 use crate::calls::sound::{MOST_LINKS, MOST_NODES, MOST_OF_MANY};
-use crate::calls::{damaged, limits, lists, wishes};
+use crate::calls::{damaged, empty, limits, lists, sharing, wishes};
 use crate::Asked;
 pub use adaptive::Layout;
 use runs::calls::call::{Call, Wish};
@@ -31,6 +31,7 @@ pub fn compare(asked: &Asked, solver: Solver, comparison: &mut Comparison, rando
     solves.small_graphs(comparison, random);
     solves.refusals(comparison, random);
     solves.random_graphs(comparison, random);
+    solves.sharing(comparison, random);
     solves.adapting(comparison, random);
     if solver == Solver::Bidirectional {
         let inputs = boundaries::drawn(random, asked.size(5_000, 200_000));
@@ -118,13 +119,14 @@ impl Solves<'_> {
 
     fn refusals(&self, comparison: &mut Comparison, random: &mut Random) {
         for entry in self.solver.entries() {
+            damaged::compare_each(entry, comparison, of_call);
+            empty::compare(entry, comparison, of_call);
             let mut kind = |name: &str, inputs: &mut dyn Iterator<Item = Call>| {
                 comparison.kind(&format!("{}, {name}", entry.name()), inputs, of_call, smaller);
             };
             kind("limits of weight, in each place", &mut limits::weights(entry).into_iter());
             kind("limits of settings and precision, each two", &mut wishes::limits(entry).into_iter());
             kind("each length, and each two", &mut limits::lengths(entry).into_iter());
-            kind("each damage", &mut damaged::singles(entry).into_iter());
             kind("each two damages", &mut damaged::pairs(entry, self.asked.full));
             let all = damaged::damages(entry);
             let several = (0..self.size(2_000, 50_000)).map(|_| damaged::several(random, entry, &all));
@@ -172,6 +174,18 @@ impl Solves<'_> {
             });
             self.kind(comparison, &format!("planned lists of {nodes} nodes"), inputs);
         }
+    }
+
+    fn sharing(&self, comparison: &mut Comparison, random: &mut Random) {
+        let inputs = (0..self.size(1_000, 20_000).max(200)).map(|number| {
+            let form = if number % 2 == 0 { Form::Links } else { Form::Rows };
+            sharing::drawn(random, form).solving(self.solver.first_question())
+        });
+        made::forget();
+        let name = format!("{}, lists to be read that share memory", self.solver.name());
+        comparison.kind(&name, inputs, of_shared, smaller);
+        let shared = made::shared(self.solver != Solver::Bidirectional);
+        self.reached(comparison, "lists that shared memory", &shared);
     }
 
     fn adapting(&self, comparison: &mut Comparison, random: &mut Random) {
@@ -282,6 +296,16 @@ fn of_graph_spoiling(call: &Call, spoiled: Option<Entry>) -> Option<String> {
 /// One call of any kind.
 fn of_call(call: &Call) -> Option<String> {
     Made::of(call).difference(&expected::outcome(call))
+}
+
+/// Every solve of what the call is given, in lists by themselves and in lists that share memory.
+fn of_shared(call: &Call) -> Option<String> {
+    let Entry::Solve(Question { solver, .. }, _) = call.entry else { unreachable!("a solve") };
+    solver.questions().into_iter().find_map(|question| {
+        let call = call.clone().solving(question);
+        let outcome = expected::outcome(&call);
+        Made::of(&call).difference(&outcome).or_else(|| Made::sharing(&call).difference(&outcome))
+    })
 }
 
 /// A call whose number docs/RULES.md gives: what is expected of damaged calls is held to it too.

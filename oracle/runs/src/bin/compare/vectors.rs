@@ -1,6 +1,8 @@
 //! The two calls that take vectors and alpha alone, `extrapolated_solution` and `combine_with_forward`, against the
 //! Rust's, and against the refusals of docs/RULES.md.
 use crate::calls::buffer::{turned, Buffer};
+use crate::calls::made::{self, note_refusal};
+use crate::calls::part::{Memory, Part};
 use crate::calls::sound::MOST_NODES;
 use crate::calls::wishes::ALPHAS;
 use crate::Asked;
@@ -14,8 +16,9 @@ use runs::calls::shape::Kind;
 use runs::calls::vectors::{Case, Entry};
 use runs::comparison::Comparison;
 use runs::entries::{self, Scored};
-use runs::lent::Lent;
+use runs::pointers::{null_if_empty, nulls};
 use runs::random::Random;
+use std::cell::Cell;
 
 pub fn compare(asked: &Asked, entry: Entry, comparison: &mut Comparison, random: &mut Random) {
     let mut kind = |name: &str, inputs: Vec<Case>| {
@@ -24,9 +27,23 @@ pub fn compare(asked: &Asked, entry: Entry, comparison: &mut Comparison, random:
     };
     kind("any numbers", (0..asked.size(20_000, 500_000)).map(|_| any(random, entry, 12)).collect());
     kind("limits of alpha", ALPHAS.iter().map(|&alpha| Case { alpha, ..any(random, entry, 12) }).collect());
+    made::forget();
     kind("each length and alpha", lengths(random, entry));
     let sizes = [0, 1, MOST_NODES as usize - 1, MOST_NODES as usize, MOST_NODES as usize + 1];
     kind("limits of size", sizes.iter().flat_map(|&size| around(random, entry, size)).collect());
+    if entry.written() > 0 {
+        let left = made::nans_left(&[1, 3, 6]);
+        comparison.reached(&format!("{}, refusals that left NaNs as they were", entry.name()), &left);
+    }
+    let at_null = |case: &Case| null_if_empty(|| difference(case, &expected(case), false));
+    let name = format!("{}, NULL for each empty list", entry.name());
+    comparison.kind(&name, emptied(random, entry).into_iter(), at_null, smaller);
+    comparison.reached(&format!("{}, lists that were NULL", entry.name()), &nulls()[..1 + entry.written()]);
+    let inputs: Vec<Case> = (0..asked.size(2_000, 50_000).max(200)).map(|_| overlapping(random, entry)).collect();
+    let name = format!("{}, lists to be read that share memory", entry.name());
+    let shared = Cell::new(0);
+    comparison.kind(&name, inputs.into_iter(), |case| of_shared(case, &shared), smaller);
+    comparison.reached(&format!("{}, lists that shared memory", entry.name()), &[("two or more", shared.get())]);
 }
 
 /// The last digit of the answer, or of its first number, is turned.
@@ -64,10 +81,26 @@ fn expected(case: &Case) -> Outcome {
 
 /// What differs from the expected outcome, if anything; where it is `planted`, a digit is turned before.
 pub fn difference(case: &Case, expected: &Outcome, planted: bool) -> Option<String> {
+    let read: Vec<Part<f64>> = case.read.iter().map(|vector| Part::own(vector)).collect();
+    reading(case, &read, expected, planted)
+}
+
+/// In lists by themselves, and in lists that share memory, which is counted.
+fn of_shared(case: &Case, shared: &Cell<u64>) -> Option<String> {
+    let mut memory = Memory::default();
+    case.read.iter().for_each(|vector| memory.put(vector));
+    let overlap = (1..case.read.len()).any(|list| (0..list).any(|other| memory.overlap(list, other)));
+    shared.set(shared.get() + u64::from(overlap));
+    let made = memory.made();
+    let read: Vec<Part<f64>> = (0..case.read.len()).map(|list| made.part(list)).collect();
+    let expected = expected(case);
+    difference(case, &expected, false).or_else(|| reading(case, &read, &expected, false))
+}
+
+fn reading(case: &Case, read: &[Part<f64>], expected: &Outcome, planted: bool) -> Option<String> {
     let name = case.entry.name();
-    let read: Vec<Lent<f64>> = case.read.iter().map(|vector| Lent::holding(vector)).collect();
     let mut written: Vec<Buffer> = (0..case.entry.written()).map(|_| Buffer::patterned(Kind::Real, case.length)).collect();
-    let mut returned = made(case, &read, Lending(&mut written.iter_mut().map(Buffer::lend)));
+    let mut returned = made(case, read, Lending(&mut written.iter_mut().map(Buffer::lend)));
     if planted {
         written.iter_mut().for_each(Buffer::spoil);
         if let Returned::Scored(scored) = &mut returned {
@@ -75,7 +108,7 @@ pub fn difference(case: &Case, expected: &Outcome, planted: bool) -> Option<Stri
         }
     }
     let mut lent = read.iter().zip(&case.read);
-    if lent.any(|(lent, contents)| !lent.guarded() || lent.differs(contents).is_some()) {
+    if lent.any(|(lent, contents)| lent.altered(contents)) {
         return Some(format!("{name} has written to a list that it was lent to read"));
     }
     let right = match expected {
@@ -86,13 +119,14 @@ pub fn difference(case: &Case, expected: &Outcome, planted: bool) -> Option<Stri
         return Some(format!("{name} returns {returned:?}, where {right:?} is right"));
     }
     let mut buffers = written.iter().enumerate();
-    let found = buffers.find_map(|(place, buffer)| buffer.difference(expected, place))?;
-    Some(format!("{name} returns {returned:?}, but solution{found}"))
+    let found = buffers.find_map(|(place, buffer)| buffer.difference(expected, place));
+    note_refusal(expected, &written);
+    found.map(|found| format!("{name} returns {returned:?}, but solution{found}"))
 }
 
 /// Makes the call.
-fn made(case: &Case, read: &[Lent<f64>], mut written: Lending) -> Returned {
-    let read: Vec<&[f64]> = read.iter().map(Lent::slice).collect();
+fn made(case: &Case, read: &[Part<f64>], mut written: Lending) -> Returned {
+    let read: Vec<&[f64]> = read.iter().map(Part::slice).collect();
     match (case.entry, &read[..]) {
         (Entry::Extrapolated, [estimate, residual]) => {
             Returned::Number(entries::extrapolated_solution(estimate, residual, case.alpha, written.reals()))
@@ -131,7 +165,9 @@ fn of_size(random: &mut Random, entry: Entry, size: usize) -> Case {
     // One special makes a sum infinite or a NaN, whatever the others are: so in half of the calls there is none.
     let specials = random.below(2) == 0;
     let mut number = || {
-        let special = random.one_of(&[0.0, -0.0, 5e-324, -1.0, f64::MAX, f64::INFINITY, f64::NEG_INFINITY, f64::NAN]);
+        // Of either sign, quiet or signalling.
+        let nan = f64::from_bits(random.next() | 0x7ff0_0000_0000_0001);
+        let special = random.one_of(&[0.0, -0.0, 5e-324, -1.0, f64::MAX, f64::INFINITY, f64::NEG_INFINITY, nan]);
         match random.below(4) {
             0 if specials => special,
             0 => random.one_of(&[0.0, -0.0, 5e-324, -f64::MIN_POSITIVE, -1.0]),
@@ -160,6 +196,45 @@ fn lengths(random: &mut Random, entry: Entry) -> Vec<Case> {
         }
     }
     found
+}
+
+/// No numbers at all, and each choice of lists that are empty where others are not.
+fn emptied(random: &mut Random, entry: Entry) -> Vec<Case> {
+    let mut found = Vec::new();
+    let lists = entry.vectors() + entry.written();
+    for size in [0, 1, 3, MOST_NODES as usize + 1] {
+        let numbers = of_size(random, entry, size);
+        for empty in 1..1usize << lists {
+            for alpha in [0.0, 0.15, 1.0, 1.5, f64::NAN].into_iter().take(if size > 3 { 1 } else { 5 }) {
+                let mut case = Case { alpha, ..numbers.clone() };
+                let is_empty = |list: usize| empty >> list & 1 == 1;
+                case.read.iter_mut().enumerate().filter(|(list, _)| is_empty(*list)).for_each(|(_, vector)| vector.clear());
+                if is_empty(entry.vectors()) {
+                    case.length = 0;
+                }
+                found.push(case);
+            }
+        }
+    }
+    found
+}
+
+/// Each vector a stretch of the same few numbers.
+fn overlapping(random: &mut Random, entry: Entry) -> Case {
+    let size = random.below(6) as usize;
+    let more = random.below(4) as usize;
+    let mut case = of_size(random, entry, size + more);
+    let numbers = case.read[0].clone();
+    for vector in &mut case.read {
+        let first = random.below((numbers.len() - size) as u64 + 1) as usize;
+        *vector = numbers[first..first + size].to_vec();
+    }
+    // Now and then one list is longer than the others.
+    if random.below(8) == 0 {
+        let longer = random.below(entry.vectors() as u64) as usize;
+        case.read[longer] = numbers;
+    }
+    Case { length: size, ..case }
 }
 
 /// A size at a limit: sound, and each way to be refused besides.

@@ -10,7 +10,7 @@ use runs::calls::entry::{Entry, BUILDERS};
 pub const WHOLE: &str = "from_edges, from_matrix";
 
 pub fn measure(given: &[Given; 3]) {
-    table::head("Graph store: time for each link", &["call", "nodes; links"], &COLUMNS);
+    table::head("Graph store: time per link", &["call", "nodes; links"], &COLUMNS);
     let sizes = || given.iter().zip([101, 31, 15]);
     for (given, rounds) in sizes() {
         whole(given).print(rounds);

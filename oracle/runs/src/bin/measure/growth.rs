@@ -18,8 +18,8 @@ const COLOURS: [&str; 4] = ["#0072b2", "#d55e00", "#009e73", "#b0489b"];
 pub fn measure() {
     let nodes = (9..=16).map(|power| (1 << power, 8 << power)).collect();
     let links = (13..=20).map(|power| (1 << 13, 1 << power)).collect();
-    series("Growth with nodes, 8 links for each: time for each call", "nodes", nodes, |size| size.0);
-    series("Growth with links, 8,192 nodes: time for each call", "links", links, |size| size.1);
+    series("Growth with nodes, 8 links per node: time per call", "nodes", nodes, |size| size.0);
+    series("Growth with links, 8,192 nodes: time per call", "links", links, |size| size.1);
 }
 
 /// Measures and draws a series of sizes, of which `along` goes along the plot.

@@ -13,11 +13,11 @@ use runs::timing::interleaved;
 const ROUNDS: usize = 1_001;
 
 pub fn measure() {
-    table::head("Job program: time for each process", &["job", "pushes"], &["rounds", "`job`", "`rust_job`", "ratio"]);
+    table::head("Job program: time per process", &["job", "pushes"], &["rounds", "`job`", "`rust_job`", "ratio"]);
     of_job("256 nodes, 1,024 links, the Rust's default settings", &largest());
     let few = Settings { epsilon: 1e-4, queue_threshold: 1e-4, ..Settings::DEFAULT };
     of_job("256 nodes, 1,024 links, epsilon and threshold 1e-4", &solving(graph(), few));
-    of_job("no nodes, no links: start and end alone", &solving(Call::on_links(0, &[]), Settings::DEFAULT));
+    of_job("no nodes, no links: only the start and end of a process", &solving(Call::on_links(0, &[]), Settings::DEFAULT));
 }
 
 /// The bytes of a job at its limits, with the Rust's default settings.

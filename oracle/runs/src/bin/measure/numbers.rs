@@ -15,7 +15,7 @@ const ROOTS: usize = 4_096;
 pub const NAMES: [&str; 4] = ["square_root", "compute_residual_norm", "extrapolated_solution", "combine_with_forward"];
 
 pub fn measure() {
-    table::head("Square root and vectors: time for each call", &["call", "numbers"], &COLUMNS);
+    table::head("Square root and vectors: time per call", &["call", "numbers"], &COLUMNS);
     for name in NAMES {
         for &size in if name == NAMES[0] { &[1][..] } else { &[1_000, 65_536] } {
             work(name, size).print(101);

@@ -1,5 +1,5 @@
 //! Draws times against a size as SVG, both axes logarithmic: a line for each call and side, and a thin bar at each point from
-//! the tenth to the ninetieth hundredth.
+//! the 10th to the 90th percentile.
 use crate::table;
 use runs::timing::Spread;
 use std::fmt::Write;

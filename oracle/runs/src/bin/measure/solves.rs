@@ -17,7 +17,7 @@ const FEWER_ROUNDS: [usize; 3] = [15, 0, 9];
 pub const SOLVERS: [Solver; 3] = [Solver::Forward, Solver::Backward, Solver::Bidirectional];
 
 pub fn measure(given: &[Given; 3]) {
-    table::head("Solvers: time for each push", &["call", "nodes; links", "pushes"], &COLUMNS);
+    table::head("Solvers: time per push", &["call", "nodes; links", "pushes"], &COLUMNS);
     for entry in SOLVERS.into_iter().flat_map(Solver::entries) {
         let rounds = match entry.task() {
             Some(Task::Single | Task::Together | Task::Adaptive) => ROUNDS,

@@ -17,7 +17,7 @@ pub struct Work<'a> {
 }
 
 /// The columns of a table of works, behind those that are the table's own.
-pub const COLUMNS: [&str; 6] = ["rounds", "proved library", "Rust", "ratio", "bytes lent", "Rust's peak heap"];
+pub const COLUMNS: [&str; 6] = ["rounds", "proved library", "Rust", "ratio", "lent (bytes)", "Rust's peak heap (bytes)"];
 
 impl Work<'_> {
     /// Sees that both sides come to the same, and prints its line of a table.

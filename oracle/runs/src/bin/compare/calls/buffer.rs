@@ -46,6 +46,14 @@ impl Buffer {
         }
     }
 
+    /// Whether it holds a quiet NaN and a signalling one.
+    pub fn has_nans(&self) -> bool {
+        let Real(lent) = self else { return false };
+        let quiet = |number: &f64| number.to_bits() >> 51 & 1 == 1;
+        let mut nans = lent.slice().iter().filter(|number| number.is_nan());
+        nans.clone().any(quiet) && nans.any(|number| !quiet(number))
+    }
+
     /// Where it is not as it was before the call.
     fn unlike_before(&self) -> Option<String> {
         let (guarded, altered) = match self {

@@ -1,4 +1,6 @@
 //! Calls that break the conditions of docs/RULES.md: each refusal number, each two at once, and several.
+use super::made;
+use super::smaller::smaller;
 use super::sound::{
     buffers, sound, with_length, with_links, with_nodes, MOST_LINKS, MOST_NODES, MOST_OF_MANY, MOST_PUSHES,
 };
@@ -6,6 +8,7 @@ use super::wishes::{records, SettingsOf};
 use runs::calls::call::Call;
 use runs::calls::entry::{Entry, Task};
 use runs::calls::refusal::applies;
+use runs::comparison::Comparison;
 use runs::random::Random;
 
 /// What makes a sound call break the condition of `number`. Damages of lower numbers go first: they set the sizes.
@@ -95,13 +98,37 @@ fn of_settings(record: SettingsOf) -> Vec<Damage> {
     found
 }
 
-/// Each damage by itself.
-pub fn singles(entry: Entry) -> Vec<Call> {
+/// Compares each damage by itself. Each refusal must meet NaNs of both kinds, so that a list which is read and written back is seen.
+pub fn compare_each(entry: Entry, comparison: &mut Comparison, of_call: impl Fn(&Call) -> Option<String>) {
+    made::forget();
+    comparison.kind(&format!("{}, each damage", entry.name()), singles(entry).into_iter(), of_call, smaller);
+    let left = made::nans_left(&numbers(entry));
+    comparison.reached(&format!("{}, refusals that left NaNs as they were", entry.name()), &left);
+}
+
+fn singles(entry: Entry) -> Vec<Call> {
     let all = damages(entry);
     let found: Vec<Call> = all.iter().map(|damage| damaged(entry, [damage])).collect();
     for (call, damage) in found.iter().zip(&all) {
         assert!(applies(damage.number, call), "a damage breaks the condition of its number");
     }
+    found
+}
+
+/// The call with each part of its wish damaged.
+pub fn wishes(call: &Call) -> Vec<Call> {
+    let damaged = |damage: &Damage| {
+        let mut call = call.clone();
+        (damage.act)(&mut call);
+        call
+    };
+    of_wishes(call.entry).iter().map(damaged).collect()
+}
+
+/// The numbers that the entry can refuse with.
+fn numbers(entry: Entry) -> Vec<u32> {
+    let mut found: Vec<u32> = damages(entry).iter().map(|damage| damage.number).collect();
+    found.dedup();
     found
 }
 

@@ -7,6 +7,7 @@ use crate::calls::wishes;
 use runs::calls::call::{Call, Wish};
 use runs::calls::refusal::refusal;
 use runs::jobs::bytes::{call_in, laid_out, MOST_LINKS, MOST_NODES, MOST_SOURCES, QUESTION};
+use runs::jobs::program::{Program, Way};
 use runs::random::Random;
 
 /// The places of the header's fields.
@@ -37,6 +38,23 @@ fn small() -> [Vec<u8>; 5] {
     let mut nothing = Call::on_links(0, &[]).solving(QUESTION);
     nothing.wish.many.clear();
     [chain(), laid_out(&few), laid_out(&no_links), laid_out(&no_sources), laid_out(&nothing)]
+}
+
+/// Jobs of which no byte can be read, and jobs of which a read fails after some bytes: every number of them of the chain, some of
+/// the others, and all of each. What was read until then is the input, as if it had ended there.
+pub fn failing(program: &Program) -> Vec<Input> {
+    let mut found = vec![Input { bytes: Vec::new(), way: Way::Folder }];
+    // Under an emulator this would be the emulator's own input, into whose place it may open a file.
+    if !program.is_emulated() {
+        found.push(Input { bytes: Vec::new(), way: Way::Closed });
+    }
+    let cut = |bytes: &[u8], length: usize| Input { bytes: bytes[..length].to_vec(), way: Way::Failing };
+    for (place, bytes) in small().into_iter().chain([largest()]).enumerate() {
+        let step = if place == 0 { 1 } else { bytes.len() / 8 };
+        found.extend((0..bytes.len()).step_by(step).map(|length| cut(&bytes, length)));
+        found.extend([bytes.len() - 1, bytes.len()].map(|length| cut(&bytes, length)));
+    }
+    found
 }
 
 /// The bytes with another word in a place.
