@@ -24,7 +24,7 @@ usesBackward backwardAlone = true
 usesBackward forwardAlone = false
 usesBackward both = true
 
--- the method of a call: in adaptive mode the given one, which the rules' `method` is, and else both solves
+-- the method of a call: the given one if the call is adaptive, where callers give the rules' `method`, and both solves if it is not
 abbrev pub methodFor : Bool → Method → Method
 methodFor adaptive m = if adaptive then m else both
 
