@@ -12,12 +12,12 @@ use lib.Ieee.{Float, nan}
 use Rattle.graph.specs.Rows.{entry, entriesOf}
 use Rattle.rules.specs.Ways.{Way, shareOf}
 use Rattle.rules.specs.Rules.{State, at, each, gain, offer, pass}
-use Rattle.pushes.specs.States.{Waits, stateWith}
+use Rattle.pushes.specs.States.{Pending, stateWith}
 use Rattle.pushes.specs.Buffers.{Lent}
 use Rattle.pushes.specs.Meant.{Along}
 
 -- what holds at the entry i
-pub record Spreading (backward : Bool) (rest degree : Float) (columns : List ℕ) (weights degrees out-degrees : List Float) (w₀ w : Waits) (i : ℕ) : Type 0 where
+pub record Spreading (backward : Bool) (rest degree : Float) (columns : List ℕ) (weights degrees out-degrees : List Float) (w₀ w : Pending) (i : ℕ) : Type 0 where
   pub up-to : i ≤ length columns
   pub lent : Lent (length degrees) w
   pub same-words : length (w .queued) ≡ length (w₀ .queued)

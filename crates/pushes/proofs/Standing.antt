@@ -13,7 +13,7 @@ use Rattle.graph.specs.Store.{chosen, Rowed}
 use Rattle.graph.proofs.Read.{start-le, start-inside, row-degree}
 use Rattle.rules.specs.Ways.{Way, wayOf, degreeOf}
 use Rattle.rules.specs.Rules.{at}
-use Rattle.pushes.specs.Buffers.{Lists, columnsOf, weightsOf, Rows}
+use Rattle.pushes.specs.Buffers.{Lists, columnsBy, weightsBy, Rows}
 use Rattle.pushes.specs.Meant.{Weighs, Stands}
 
 -- one of two lists that are as long
@@ -49,10 +49,10 @@ module _ {n : ℕ} {starts columns : List ℕ} {weights : List Float} (z : Rowed
 module _ {n : ℕ} {backward : Bool} {l : Lists} (r : Rows n backward l) where
   module _ (v : ℕ) (h : v < n) (s e : ℕ) (p : s ≡ getD (l .starts) v 0) (q : e ≡ getD (l .starts) (v + 1) 0) where
     -- the row of v is a part of either of two lists that are as long as the columns
-    part-fits : {A : Type 0} (x y : List A) → length y ≡ length x → length (chosen backward x y) ≡ length (columnsOf backward l)
+    part-fits : {A : Type 0} (x y : List A) → length y ≡ length x → length (chosen backward x y) ≡ length (columnsBy backward l)
         → (s ≤ e) × (e ≤ length x) × (e ≤ length y)
     part-fits x y alike paired =
-        let k : e ≤ length (columnsOf backward l) = rw (q, add-one) (start-inside (r .rowed) (suc v) h) in
+        let k : e ≤ length (columnsBy backward l) = rw (q, add-one) (start-inside (r .rowed) (suc v) h) in
         let m : e ≤ length x = omega (arith, paired, chosen-long backward x y alike) in
         (rw (p, q, add-one) (r .rowed .rises v h), m, omega arith)
 
@@ -71,7 +71,7 @@ module _ {n : ℕ} {backward : Bool} {l : Lists} (r : Rows n backward l) where
 
 -- a way that the buffers stand for
 pub wayIn : Bool → Lists → Way
-wayIn backward l = wayOf backward (λ v. rowIn (getD (l .starts) v 0) (getD (l .starts) (suc v) 0) (columnsOf backward l) (weightsOf backward l)) (at (l .out-degrees))
+wayIn backward l = wayOf backward (λ v. rowIn (getD (l .starts) v 0) (getD (l .starts) (suc v) 0) (columnsBy backward l) (weightsBy backward l)) (at (l .out-degrees))
 
 -- and it is one of those that are meant, so that what is promised of all of them is said of one
 pub stands : (n : ℕ) (backward : Bool) (l : Lists) → Stands n backward l (wayIn backward l)

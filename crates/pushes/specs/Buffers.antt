@@ -9,21 +9,21 @@ use lib.ListN.{length, getD}
 use lib.Ieee.{Float}
 use Rattle.graph.specs.Store.{chosen, degreesIn, Rowed}
 use Rattle.queue.specs.Heap.{Heap}
-use Rattle.pushes.specs.States.{Held, Slice, Waits, waitsOf}
+use Rattle.pushes.specs.States.{Holding, Slice, Pending, pendingOf}
 
 -- the residual and the queue have a place for each node
-pub record Lent (n : ℕ) (w : Waits) : Type 0 where
+pub record Lent (n : ℕ) (w : Pending) : Type 0 where
   pub heap : Heap (w .queue .size) (w .priorities) (w .nodes) (w .queued)
   pub wide : length (w .priorities) ≡ n
   pub residual-long : length (w .residual) ≡ n
 
 -- the same, with a node
-pub record Seated (n v : ℕ) (w : Waits) : Type 0 where
+pub record Seated (n v : ℕ) (w : Pending) : Type 0 where
   pub lent : Lent n w
   pub below : v < n
 
 -- a row, with a residual and a queue for its nodes
-pub record Row (n : ℕ) (columns : List ℕ) (weights out-degrees : List Float) (w : Waits) : Type 0 where
+pub record Row (n : ℕ) (columns : List ℕ) (weights out-degrees : List Float) (w : Pending) : Type 0 where
   pub lent : Lent n w
   pub paired : length weights ≡ length columns
   pub out-degrees-long : length out-degrees ≡ n
@@ -51,24 +51,24 @@ abbrev pub lists : Slice ℕ → Slice ℕ → Slice ℕ → Slice Float → Sli
 lists s c c′ w w′ d o = listsIn (s .entry) (c .entry) (c′ .entry) (w .entry) (w′ .entry) (d .entry) (o .entry)
 
 -- the lists of the direction
-abbrev pub columnsOf : Bool → Lists → List ℕ
-columnsOf backward l = chosen backward (l .columns) (l .reverse-columns)
+abbrev pub columnsBy : Bool → Lists → List ℕ
+columnsBy backward l = chosen backward (l .columns) (l .reverse-columns)
 
-abbrev pub weightsOf : Bool → Lists → List Float
-weightsOf backward l = chosen backward (l .weights) (l .reverse-weights)
+abbrev pub weightsBy : Bool → Lists → List Float
+weightsBy backward l = chosen backward (l .weights) (l .reverse-weights)
 
 -- they hold rows, with their degrees
 pub record Rows (n : ℕ) (backward : Bool) (l : Lists) : Type 0 where
-  pub rowed : Rowed n (l .starts) (columnsOf backward l) (weightsOf backward l)
+  pub rowed : Rowed n (l .starts) (columnsBy backward l) (weightsBy backward l)
   pub columns-alike : length (l .reverse-columns) ≡ length (l .columns)
   pub weights-alike : length (l .reverse-weights) ≡ length (l .weights)
-  pub degrees-are : l .degrees ≡ degreesIn n (l .starts) (weightsOf backward l)
+  pub degrees-are : l .degrees ≡ degreesIn n (l .starts) (weightsBy backward l)
   pub out-degrees-long : length (l .out-degrees) ≡ n
 
 -- all buffers of a solve between two turns
-pub record Ready (n : ℕ) (backward : Bool) (l : Lists) (h : Held) : Type 0 where
+pub record Ready (n : ℕ) (backward : Bool) (l : Lists) (h : Holding) : Type 0 where
   pub rows : Rows n backward l
-  pub lent : Lent n (waitsOf h)
+  pub lent : Lent n (pendingOf h)
   pub estimate-long : length (h .estimate) ≡ n
   pub visited-room : n ≤ 64 * length (h .visited)
 

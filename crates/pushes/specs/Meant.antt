@@ -9,7 +9,7 @@ use lib.Ieee.{Float}
 use Rattle.graph.specs.Rows.{Entry, rowIn}
 use Rattle.rules.specs.Ways.{Way, shareOf, degreeOf}
 use Rattle.rules.specs.Rules.{at}
-use Rattle.pushes.specs.Buffers.{Lists, columnsOf, weightsOf}
+use Rattle.pushes.specs.Buffers.{Lists, columnsBy, weightsBy}
 
 -- every way
 abbrev pub Every : Way → Type 0
@@ -34,5 +34,5 @@ pub record Along (backward : Bool) (degrees out-degrees : List Float) (way : Way
 
 -- those with the rows of a direction, and its shares
 pub record Stands (n : ℕ) (backward : Bool) (l : Lists) (way : Way) : Type 0 where
-  pub rows : (v : ℕ) → v < n → way .row v ≡ rowIn (getD (l .starts) v 0) (getD (l .starts) (suc v) 0) (columnsOf backward l) (weightsOf backward l)
+  pub rows : (v : ℕ) → v < n → way .row v ≡ rowIn (getD (l .starts) v 0) (getD (l .starts) (suc v) 0) (columnsBy backward l) (weightsBy backward l)
   pub shares : Shares n backward (l .out-degrees) way

@@ -7,17 +7,17 @@ use mathlib.Core.Path.{_≡_}
 use lib.Ieee.{Float}
 use Rattle.rules.specs.Ways.{Way}
 use Rattle.rules.specs.Rules.{State, absorbed, cleared}
-use Rattle.pushes.specs.States.{Waits, stateWith}
+use Rattle.pushes.specs.States.{Pending, stateWith}
 use Rattle.pushes.specs.Buffers.{Lent}
 
 -- the residual and the queue
-pub record Moved (meant : Way → Type 0) (f : Way → State → State) (n : ℕ) (w w′ : Waits) : Type 0 where
+pub record Moved (meant : Way → Type 0) (f : Way → State → State) (n : ℕ) (w w′ : Pending) : Type 0 where
   pub lent : Lent n w′
   pub state : (way : Way) → meant way → (estimate : List Float) (pushes : ℕ) (visited : List ℕ)
       → stateWith n estimate pushes visited w′ ≡ f way (stateWith n estimate pushes visited w)
 
 -- the estimate, the residual and the queue
-pub record Pushed (meant : Way → Type 0) (f : Way → State → State) (n : ℕ) (estimate : List Float) (w : Waits) (estimate′ : List Float) (w′ : Waits) : Type 0 where
+pub record Pushed (meant : Way → Type 0) (f : Way → State → State) (n : ℕ) (estimate : List Float) (w : Pending) (estimate′ : List Float) (w′ : Pending) : Type 0 where
   pub lent : Lent n w′
   pub state : (way : Way) → meant way → (pushes : ℕ) (visited : List ℕ) → stateWith n estimate′ pushes visited w′ ≡ f way (stateWith n estimate pushes visited w)
 

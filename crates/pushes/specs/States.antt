@@ -45,7 +45,7 @@ stateIn n estimate residual p priorities nodes visited =
 -- ---- what a run holds
 
 -- its progress, and what is in the lent buffers
-pub record Held : Type 0 where
+pub record Holding : Type 0 where
   pub p : Progress
   pub estimate : List Float
   pub residual : List Float
@@ -55,11 +55,11 @@ pub record Held : Type 0 where
   pub visited : List ℕ
 
 -- by its parts
-abbrev pub held : Progress → List Float → List Float → List Float → List ℕ → List ℕ → List ℕ → Held
-held p e r ps ns qs vs = record { p = p; estimate = e; residual = r; priorities = ps; nodes = ns; queued = qs; visited = vs }
+abbrev pub holding : Progress → List Float → List Float → List Float → List ℕ → List ℕ → List ℕ → Holding
+holding p e r ps ns qs vs = record { p = p; estimate = e; residual = r; priorities = ps; nodes = ns; queued = qs; visited = vs }
 
 -- the state that it stands for
-unfoldable pub stateOf : ℕ → Held → State
+unfoldable pub stateOf : ℕ → Holding → State
 stateOf n h = stateIn n (h .estimate) (h .residual) (h .p) (h .priorities) (h .nodes) (h .visited)
 
 -- a slice that a call is lent, as its `ensures` names it
@@ -67,19 +67,19 @@ abbrev pub Slice : Type 0 → Type 0
 Slice A = Both (RefT (List A)) (RefT (List A))
 
 -- what the slices of a call hold: in its `requires`, and in its `ensures` before it and after it
-abbrev pub heldIn : Progress → RefT (List Float) → RefT (List Float) → RefT (List Float) → RefT (List ℕ) → RefT (List ℕ) → RefT (List ℕ) → Held
-heldIn p e r ps ns qs vs = held p (now e) (now r) (now ps) (now ns) (now qs) (now vs)
+abbrev pub holdingIn : Progress → RefT (List Float) → RefT (List Float) → RefT (List Float) → RefT (List ℕ) → RefT (List ℕ) → RefT (List ℕ) → Holding
+holdingIn p e r ps ns qs vs = holding p (now e) (now r) (now ps) (now ns) (now qs) (now vs)
 
-abbrev pub heldBefore : Progress → Slice Float → Slice Float → Slice Float → Slice ℕ → Slice ℕ → Slice ℕ → Held
-heldBefore p e r ps ns qs vs = heldIn p (e .entry) (r .entry) (ps .entry) (ns .entry) (qs .entry) (vs .entry)
+abbrev pub holdingBefore : Progress → Slice Float → Slice Float → Slice Float → Slice ℕ → Slice ℕ → Slice ℕ → Holding
+holdingBefore p e r ps ns qs vs = holdingIn p (e .entry) (r .entry) (ps .entry) (ns .entry) (qs .entry) (vs .entry)
 
-abbrev pub heldAfter : Progress → Slice Float → Slice Float → Slice Float → Slice ℕ → Slice ℕ → Slice ℕ → Held
-heldAfter p e r ps ns qs vs = heldIn p (e .exit) (r .exit) (ps .exit) (ns .exit) (qs .exit) (vs .exit)
+abbrev pub holdingAfter : Progress → Slice Float → Slice Float → Slice Float → Slice ℕ → Slice ℕ → Slice ℕ → Holding
+holdingAfter p e r ps ns qs vs = holdingIn p (e .exit) (r .exit) (ps .exit) (ns .exit) (qs .exit) (vs .exit)
 
 -- ---- the part of it that the queue goes by
 
 -- the queue, its entries, the marks of who waits, and the residual
-pub record Waits : Type 0 where
+pub record Pending : Type 0 where
   pub queue : WorkQueue
   pub residual : List Float
   pub priorities : List Float
@@ -87,23 +87,23 @@ pub record Waits : Type 0 where
   pub queued : List ℕ
 
 -- by its parts
-abbrev pub waits : WorkQueue → List Float → List Float → List ℕ → List ℕ → Waits
-waits q r ps ns qs = record { queue = q; residual = r; priorities = ps; nodes = ns; queued = qs }
+abbrev pub pending : WorkQueue → List Float → List Float → List ℕ → List ℕ → Pending
+pending q r ps ns qs = record { queue = q; residual = r; priorities = ps; nodes = ns; queued = qs }
 
 -- of what a run holds
-abbrev pub waitsOf : Held → Waits
-waitsOf h = waits (h .p .queue) (h .residual) (h .priorities) (h .nodes) (h .queued)
+abbrev pub pendingOf : Holding → Pending
+pendingOf h = pending (h .p .queue) (h .residual) (h .priorities) (h .nodes) (h .queued)
 
 -- the state that it stands for, with the rest
-abbrev pub stateWith : ℕ → List Float → ℕ → List ℕ → Waits → State
+abbrev pub stateWith : ℕ → List Float → ℕ → List ℕ → Pending → State
 stateWith n estimate pushes visited w = stateIn n estimate (w .residual) (progress (w .queue) pushes) (w .priorities) (w .nodes) visited
 
 -- what the slices of a call hold: in its `requires`, and in its `ensures` before it and after it
-abbrev pub waitsIn : WorkQueue → RefT (List Float) → RefT (List Float) → RefT (List ℕ) → RefT (List ℕ) → Waits
-waitsIn q r ps ns qs = waits q (now r) (now ps) (now ns) (now qs)
+abbrev pub pendingIn : WorkQueue → RefT (List Float) → RefT (List Float) → RefT (List ℕ) → RefT (List ℕ) → Pending
+pendingIn q r ps ns qs = pending q (now r) (now ps) (now ns) (now qs)
 
-abbrev pub waitsBefore : WorkQueue → Slice Float → Slice Float → Slice ℕ → Slice ℕ → Waits
-waitsBefore q r ps ns qs = waitsIn q (r .entry) (ps .entry) (ns .entry) (qs .entry)
+abbrev pub pendingBefore : WorkQueue → Slice Float → Slice Float → Slice ℕ → Slice ℕ → Pending
+pendingBefore q r ps ns qs = pendingIn q (r .entry) (ps .entry) (ns .entry) (qs .entry)
 
-abbrev pub waitsAfter : WorkQueue → Slice Float → Slice Float → Slice ℕ → Slice ℕ → Waits
-waitsAfter q r ps ns qs = waitsIn q (r .exit) (ps .exit) (ns .exit) (qs .exit)
+abbrev pub pendingAfter : WorkQueue → Slice Float → Slice Float → Slice ℕ → Slice ℕ → Pending
+pendingAfter q r ps ns qs = pendingIn q (r .exit) (ps .exit) (ns .exit) (qs .exit)

@@ -7,7 +7,7 @@ ghost use Rattle.graph.specs.Rows.{entriesOf};
 ghost use Rattle.rules.specs.Ways.{shareOf};
 ghost use Rattle.rules.specs.Ways as Ways;
 ghost use Rattle.rules.specs.Rules.{each, gain, offer, pass, handOut, push};
-ghost use Rattle.pushes.specs.States.{waitsIn, waitsBefore, waitsAfter};
+ghost use Rattle.pushes.specs.States.{pendingIn, pendingBefore, pendingAfter};
 ghost use Rattle.pushes.specs.Buffers.{listsIn, lists, Seated, Row, Rows};
 ghost use Rattle.pushes.specs.Meant.{Weighs, Along, Stands};
 ghost use Rattle.pushes.specs.Promises.{Moved, Pushed, Absorbed};
@@ -47,9 +47,9 @@ pub fn offer_node(
     nodes: &mut [u32],
     queued: &mut [u64],
 ) -> WorkQueue
-    requires { ⌜ Seated (length (now degrees)) v (waitsIn q residual priorities nodes queued) ⌝ }
+    requires { ⌜ Seated (length (now degrees)) v (pendingIn q residual priorities nodes queued) ⌝ }
     ensures { λ r. ⌜ Moved (Weighs (now (degrees .entry)) v) (λ way. offer way v) (length (now (degrees .entry)))
-        (waitsBefore q residual priorities nodes queued) (waitsAfter r residual priorities nodes queued) ⌝ }
+        (pendingBefore q residual priorities nodes queued) (pendingAfter r residual priorities nodes queued) ⌝ }
 {
     if queue::waits(queued, v) {
         return q;
@@ -70,9 +70,9 @@ fn pass_on(
     nodes: &mut [u32],
     queued: &mut [u64],
 ) -> WorkQueue
-    requires { ⌜ Seated (length (now degrees)) v (waitsIn q residual priorities nodes queued) ⌝ }
+    requires { ⌜ Seated (length (now degrees)) v (pendingIn q residual priorities nodes queued) ⌝ }
     ensures { λ r. ⌜ Moved (Weighs (now (degrees .entry)) v) (λ way s. offer way v (gain x v s)) (length (now (degrees .entry)))
-        (waitsBefore q residual priorities nodes queued) (waitsAfter r residual priorities nodes queued) ⌝ }
+        (pendingBefore q residual priorities nodes queued) (pendingAfter r residual priorities nodes queued) ⌝ }
 {
     let at = v as usize;
     residual[at] = residual[at] + x;
@@ -95,10 +95,10 @@ fn spread(
     nodes: &mut [u32],
     queued: &mut [u64],
 ) -> WorkQueue
-    requires { ⌜ Row (length (now degrees)) (now columns) (now weights) (now «out_degrees») (waitsIn q residual priorities nodes queued) ⌝ }
+    requires { ⌜ Row (length (now degrees)) (now columns) (now weights) (now «out_degrees») (pendingIn q residual priorities nodes queued) ⌝ }
     ensures { λ r. ⌜ Moved (Along backward (now (degrees .entry)) (now («out_degrees» .entry)))
         (λ way. each (pass way rest degree) (entriesOf (now (columns .entry)) (now (weights .entry)))) (length (now (degrees .entry)))
-        (waitsBefore q residual priorities nodes queued) (waitsAfter r residual priorities nodes queued) ⌝ }
+        (pendingBefore q residual priorities nodes queued) (pendingAfter r residual priorities nodes queued) ⌝ }
 {
     let mut w = q;
     let mut i = 0;
@@ -132,10 +132,10 @@ fn hand_out<'a>(
     queued: &mut [u64],
 ) -> WorkQueue
     requires { ⌜ Rows (length (now degrees)) backward (listsIn starts columns «reverse_columns» weights «reverse_weights» degrees «out_degrees»)
-        × Seated (length (now degrees)) v (waitsIn q residual priorities nodes queued) ⌝ }
+        × Seated (length (now degrees)) v (pendingIn q residual priorities nodes queued) ⌝ }
     ensures { λ r. ⌜ Moved (Stands (length (now (degrees .entry))) backward (lists starts columns «reverse_columns» weights «reverse_weights» degrees «out_degrees»))
         (λ way. handOut way rest v) (length (now (degrees .entry)))
-        (waitsBefore q residual priorities nodes queued) (waitsAfter r residual priorities nodes queued) ⌝ }
+        (pendingBefore q residual priorities nodes queued) (pendingAfter r residual priorities nodes queued) ⌝ }
 {
     let at = v as usize;
     let degree = degrees[at];
@@ -193,10 +193,10 @@ pub fn push_node<'a>(
     queued: &mut [u64],
 ) -> WorkQueue
     requires { ⌜ Rows (length (now degrees)) backward (listsIn starts columns «reverse_columns» weights «reverse_weights» degrees «out_degrees»)
-        × Seated (length (now degrees)) v (waitsIn q residual priorities nodes queued) × (length (now estimate) ≡ length (now degrees)) ⌝ }
+        × Seated (length (now degrees)) v (pendingIn q residual priorities nodes queued) × (length (now estimate) ≡ length (now degrees)) ⌝ }
     ensures { λ r. ⌜ Pushed (Stands (length (now (degrees .entry))) backward (lists starts columns «reverse_columns» weights «reverse_weights» degrees «out_degrees»))
         (λ way. push way alpha v) (length (now (degrees .entry)))
-        (now (estimate .entry)) (waitsBefore q residual priorities nodes queued) (now (estimate .exit)) (waitsAfter r residual priorities nodes queued) ⌝ }
+        (now (estimate .entry)) (pendingBefore q residual priorities nodes queued) (now (estimate .exit)) (pendingAfter r residual priorities nodes queued) ⌝ }
 {
     let at = v as usize;
     let mass = residual[at];

@@ -31,7 +31,7 @@ SaysWaits marks v r =
     (size : ℕ) (priorities : List Float) (nodes : List ℕ) → Heap size priorities nodes marks → v < length priorities → r ≡ isWaiting (getD (waiting size priorities nodes) v out)
 
 -- the buffers are all zero, and as long as those before
-pub record Cleared (room places words : ℕ) (priorities : List Float) (nodes marks : List ℕ) : Type 0 where
+pub record QueueCleared (room places words : ℕ) (priorities : List Float) (nodes marks : List ℕ) : Type 0 where
   pub priorities-zero : priorities ≡ replicate room +0
   pub nodes-zero : nodes ≡ replicate places 0
   pub marks-zero : marks ≡ replicate words 0

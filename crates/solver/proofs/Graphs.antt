@@ -10,12 +10,12 @@ use Rattle.graph.specs.Store.{Rowed}
 use Rattle.graph.proofs.Read.{row-at}
 use Rattle.rules.specs.Ways.{shareOf, wayOf, rowAt, over}
 use Rattle.rules.specs.Rules.{at}
-use Rattle.pushes.specs.Buffers.{Lists, columnsOf, weightsOf}
+use Rattle.pushes.specs.Buffers.{Lists, columnsBy, weightsBy}
 use Rattle.pushes.specs.Meant.{Stands}
 
 -- the lists of the direction hold its rows, and the out-degrees are those of the graph
-pub stands-over : (n : ℕ) (backward : Bool) (rows : List (List Entry)) (l : Lists) → Rowed n (l .starts) (columnsOf backward l) (weightsOf backward l)
-    → rowsIn n (l .starts) (columnsOf backward l) (weightsOf backward l) ≡ (if backward then transposed n rows else rows)
+pub stands-over : (n : ℕ) (backward : Bool) (rows : List (List Entry)) (l : Lists) → Rowed n (l .starts) (columnsBy backward l) (weightsBy backward l)
+    → rowsIn n (l .starts) (columnsBy backward l) (weightsBy backward l) ≡ (if backward then transposed n rows else rows)
     → ((v : ℕ) → v < n → at (l .out-degrees) v ≡ degree (rowAt rows v)) → Stands n backward l (over backward n rows)
 unfolding over wayOf
 stands-over n backward rows l h e o =

@@ -16,7 +16,7 @@ use Rattle.rules.specs.Ways.{Way}
 use Rattle.rules.specs.Rules.{State, Watch, goesOn, due, turn, run, start, enough, solve}
 use Rattle.rules.proofs.Due.{next-none}
 use Rattle.rules.proofs.Ends.{measure, falls, end, end-stays, end-turn, solve-ends}
-use Rattle.pushes.specs.States.{SameBeyond, Held, stateOf}
+use Rattle.pushes.specs.States.{SameBeyond, Holding, stateOf}
 use Rattle.pushes.specs.Buffers.{Lists, Ready}
 use Rattle.pushes.specs.Meant.{Stands}
 
@@ -57,7 +57,7 @@ solved way settings watch n sources s t e f =
     f (enough settings n) (rw e (solve-ends way settings watch n sources)) ∙ ap (run way settings watch (enough settings n)) e
 
 -- what holds between two turns
-pub record Running (settings : Settings) (backward : Bool) (watch : Watch) (n : ℕ) (l : Lists) (h₀ h : Held) : Type 0 where
+pub record Running (settings : Settings) (backward : Bool) (watch : Watch) (n : ℕ) (l : Lists) (h₀ h : Holding) : Type 0 where
   pub ready : Ready n backward l h
   pub same-queued : length (h .queued) ≡ length (h₀ .queued)
   pub same-visited : length (h .visited) ≡ length (h₀ .visited)

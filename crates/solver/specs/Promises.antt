@@ -11,7 +11,7 @@ use Rattle.refusals.specs.declared.Settings.{Settings}
 use Rattle.queue.specs.Waiting.{nobody}
 use Rattle.rules.specs.Ways.{Way}
 use Rattle.rules.specs.Rules.{Watch, goesOn, due, run}
-use Rattle.pushes.specs.States.{stateIn, Held, waitsOf, stateOf, SameBeyond}
+use Rattle.pushes.specs.States.{stateIn, Holding, pendingOf, stateOf, SameBeyond}
 use Rattle.pushes.specs.Buffers.{Lent}
 use Rattle.pushes.specs.declared.Progress.{Progress}
 
@@ -21,7 +21,7 @@ Continues settings watch p estimate residual r =
     (n : ℕ) (priorities : List Float) (nodes visited : List ℕ) → r ≡ goesOn settings watch (stateIn n estimate residual p priorities nodes visited) && ltb 0 (p .queue .size)
 
 -- turns were taken until it was nobody's: whatever number of turns is enough, the state is the one after so many
-pub record Ran (meant : Way → Type 0) (settings : Settings) (watch : Watch) (n : ℕ) (h h′ : Held) : Type 0 where
-  pub lent : Lent n (waitsOf h′)
+pub record Ran (meant : Way → Type 0) (settings : Settings) (watch : Watch) (n : ℕ) (h h′ : Holding) : Type 0 where
+  pub lent : Lent n (pendingOf h′)
   pub state : (way : Way) → meant way → (turns : ℕ) → due settings watch (run way settings watch turns (stateOf n h)) ≡ nobody → stateOf n h′ ≡ run way settings watch turns (stateOf n h)
   pub beyond : SameBeyond n (h .visited) (h′ .visited)

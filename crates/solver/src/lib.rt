@@ -5,7 +5,7 @@ ghost use Prim.Native.Nat.{_≤_};
 ghost use lib.ListN.{length};
 ghost use Rattle.rules.specs.Rules as Rules;
 ghost use Rattle.watching.specs.Watching.{watchIn};
-ghost use Rattle.pushes.specs.States.{heldIn, heldBefore, heldAfter};
+ghost use Rattle.pushes.specs.States.{holdingIn, holdingBefore, holdingAfter};
 ghost use Rattle.pushes.specs.Buffers.{listsIn, lists, Rows, Ready, Room};
 ghost use Rattle.pushes.specs.Meant.{Stands};
 ghost use Rattle.starting.specs.Promises.{LeavesState};
@@ -56,9 +56,9 @@ fn run<'a>(
     visited: &mut [u64],
 ) -> Progress
     requires { ⌜ Ready (length (now degrees)) backward (listsIn starts columns «reverse_columns» weights «reverse_weights» degrees «out_degrees»)
-        (heldIn p estimate residual priorities nodes queued visited) ⌝ }
+        (holdingIn p estimate residual priorities nodes queued visited) ⌝ }
     ensures { λ r. ⌜ Ran (Stands (length (now (degrees .entry))) backward (lists starts columns «reverse_columns» weights «reverse_weights» degrees «out_degrees»)) settings (watchIn watch)
-        (length (now (degrees .entry))) (heldBefore p estimate residual priorities nodes queued visited) (heldAfter r estimate residual priorities nodes queued visited) ⌝ }
+        (length (now (degrees .entry))) (holdingBefore p estimate residual priorities nodes queued visited) (holdingAfter r estimate residual priorities nodes queued visited) ⌝ }
 {
     let mut w = p;
     while goes_on(settings, watch, w, estimate, residual) {
@@ -84,7 +84,7 @@ fn run<'a>(
     w
 }
 
-// A whole solve, whatever the buffers held. The starts and the degrees are those of the direction,
+// A whole solve, whatever the buffers holding. The starts and the degrees are those of the direction,
 // and `out_degrees` are the out-degrees. Forward reads no reverse list: lend the others twice.
 pub fn solve<'a>(
     settings: Settings,
@@ -109,7 +109,7 @@ pub fn solve<'a>(
         × Room (length (now degrees)) (now estimate) (now residual) (now priorities) (now nodes) (now queued) (now visited) × (length (now sources) ≤ 65536) ⌝ }
     ensures { λ r. ⌜ LeavesState (Stands (length (now (degrees .entry))) backward (lists starts columns «reverse_columns» weights «reverse_weights» degrees «out_degrees»))
         (λ way. Rules.solve way settings (watchIn watch) (length (now (degrees .entry))) (now (sources .entry)))
-        (length (now (degrees .entry))) (heldAfter r estimate residual priorities nodes queued visited) ⌝ }
+        (length (now (degrees .entry))) (holdingAfter r estimate residual priorities nodes queued visited) ⌝ }
 {
     let p = starting::start(
         settings,

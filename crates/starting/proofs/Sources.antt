@@ -12,7 +12,7 @@ use lib.Ieee.{Float}
 use Rattle.numbers.specs.Choice.{if_then_else_}
 use Rattle.rules.specs.Ways.{Way}
 use Rattle.rules.specs.Rules.{State, each, inside, gain, offer}
-use Rattle.pushes.specs.States.{stateIn, Waits, stateWith}
+use Rattle.pushes.specs.States.{stateIn, Pending, stateWith}
 use Rattle.pushes.specs.Buffers.{Lent}
 use Rattle.pushes.specs.Meant.{Weighing}
 use Rattle.pushes.specs.declared.Progress.{Progress}
@@ -36,7 +36,7 @@ pub record Gaining (x : Float) (sources : List ℕ) (residual₀ residual : List
       ≡ each (gain x) (inside (length residual₀) sources) (stateIn n estimate residual₀ p ps ns vs)
 
 -- what holds at the source i, while all are offered
-pub record Offering (sources : List ℕ) (degrees : List Float) (w₀ w : Waits) (i : ℕ) : Type 0 where
+pub record Offering (sources : List ℕ) (degrees : List Float) (w₀ w : Pending) (i : ℕ) : Type 0 where
   pub up-to : i ≤ length sources
   pub lent : Lent (length degrees) w
   pub same-words : length (w .queued) ≡ length (w₀ .queued)

@@ -6,7 +6,7 @@ ghost use lib.ListN.{length};
 ghost use Rattle.rules.specs.Rules.{inside, each, gain, offer};
 ghost use Rattle.rules.specs.Rules as Rules;
 ghost use Rattle.watching.specs.Watching.{watchIn};
-ghost use Rattle.pushes.specs.States.{waitsIn, waitsBefore, waitsAfter, heldAfter};
+ghost use Rattle.pushes.specs.States.{pendingIn, pendingBefore, pendingAfter, holdingAfter};
 ghost use Rattle.pushes.specs.Buffers.{Lent, Room};
 ghost use Rattle.pushes.specs.Meant.{Every, Weighing};
 ghost use Rattle.pushes.specs.Promises.{Moved};
@@ -47,9 +47,9 @@ fn offer_one(
     nodes: &mut [u32],
     queued: &mut [u64],
 ) -> WorkQueue
-    requires { ⌜ Lent (length (now degrees)) (waitsIn q residual priorities nodes queued) ⌝ }
+    requires { ⌜ Lent (length (now degrees)) (pendingIn q residual priorities nodes queued) ⌝ }
     ensures { λ r. ⌜ Moved (Weighing (now (degrees .entry))) (λ way. each (offer way) (inside (length (now (degrees .entry))) (v ∷ []))) (length (now (degrees .entry)))
-        (waitsBefore q residual priorities nodes queued) (waitsAfter r residual priorities nodes queued) ⌝ }
+        (pendingBefore q residual priorities nodes queued) (pendingAfter r residual priorities nodes queued) ⌝ }
 {
     let at = v as usize;
     if at < degrees.len() {
@@ -68,9 +68,9 @@ fn offer_all(
     nodes: &mut [u32],
     queued: &mut [u64],
 ) -> WorkQueue
-    requires { ⌜ Lent (length (now degrees)) (waitsIn q residual priorities nodes queued) ⌝ }
+    requires { ⌜ Lent (length (now degrees)) (pendingIn q residual priorities nodes queued) ⌝ }
     ensures { λ r. ⌜ Moved (Weighing (now (degrees .entry))) (λ way. each (offer way) (inside (length (now (degrees .entry))) (now (sources .entry)))) (length (now (degrees .entry)))
-        (waitsBefore q residual priorities nodes queued) (waitsAfter r residual priorities nodes queued) ⌝ }
+        (pendingBefore q residual priorities nodes queued) (pendingAfter r residual priorities nodes queued) ⌝ }
 {
     let mut w = q;
     let mut i = 0;
@@ -81,7 +81,7 @@ fn offer_all(
     w
 }
 
-// Nothing anywhere, whatever the buffers held.
+// Nothing anywhere, whatever the buffers holding.
 fn blank(
     threshold: f64,
     estimate: &mut [f64],
@@ -93,7 +93,7 @@ fn blank(
 ) -> Progress
     requires { ⌜ Room (length (now priorities)) (now estimate) (now residual) (now priorities) (now nodes) (now queued) (now visited) ⌝ }
     ensures { λ r. ⌜ LeavesState Every (λ _. Rules.blank (length (now (priorities .entry))) threshold) (length (now (priorities .entry)))
-        (heldAfter r estimate residual priorities nodes queued visited) ⌝ }
+        (holdingAfter r estimate residual priorities nodes queued visited) ⌝ }
 {
     numbers::clear_floats(estimate);
     numbers::clear_floats(residual);
@@ -102,7 +102,7 @@ fn blank(
     Progress { queue, pushes: 0 }
 }
 
-// The state before the first turn, whatever the buffers held.
+// The state before the first turn, whatever the buffers holding.
 pub fn start(
     settings: Settings,
     watch: Watch,
@@ -117,7 +117,7 @@ pub fn start(
 ) -> Progress
     requires { ⌜ Room (length (now degrees)) (now estimate) (now residual) (now priorities) (now nodes) (now queued) (now visited) × (length (now sources) ≤ 65536) ⌝ }
     ensures { λ r. ⌜ LeavesState (Weighing (now (degrees .entry))) (λ way. Rules.start way settings (watchIn watch) (length (now (degrees .entry))) (now (sources .entry)))
-        (length (now (degrees .entry))) (heldAfter r estimate residual priorities nodes queued visited) ⌝ }
+        (length (now (degrees .entry))) (holdingAfter r estimate residual priorities nodes queued visited) ⌝ }
 {
     let p = blank(
         settings.queue_threshold,

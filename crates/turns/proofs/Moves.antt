@@ -15,7 +15,7 @@ use Rattle.queue.specs.Waiting.{out}
 use Rattle.queue.specs.Heap.{waiting, Heap}
 use Rattle.queue.specs.declared.WorkQueue.{WorkQueue}
 use Rattle.rules.specs.Rules.{queued, counted}
-use Rattle.pushes.specs.States.{marksIn, SameBeyond, progress, stateIn, Held, held, stateOf}
+use Rattle.pushes.specs.States.{marksIn, SameBeyond, progress, stateIn, Holding, holding, stateOf}
 use Rattle.turns.specs.Promises.{Adapted}
 
 -- one node more is marked
@@ -28,15 +28,15 @@ pub marks-beyond : (n v : ℕ) (words words′ : List ℕ) → WithMark true wor
 marks-beyond n v words words′ w h u l = w .elsewhere u (λ e. omega arith)
 
 -- a push of v was counted
-pub counted-state : (settings : Settings) (n v : ℕ) (h : Held) (q : WorkQueue) (vs : List ℕ) → Heap (h .p .queue .size) (h .priorities) (h .nodes) (h .queued)
+pub counted-state : (settings : Settings) (n v : ℕ) (h : Holding) (q : WorkQueue) (vs : List ℕ) → Heap (h .p .queue .size) (h .priorities) (h .nodes) (h .queued)
     → Adapted (settings .«adaptive_threshold») (h .p .pushes + 1) (h .p .queue) q → WithMark true (h .visited) vs v → v < n
-    → stateOf n (held (progress q (h .p .pushes + 1)) (h .estimate) (h .residual) (h .priorities) (h .nodes) (h .queued) vs) ≡ counted settings v (stateOf n h)
+    → stateOf n (holding (progress q (h .p .pushes + 1)) (h .estimate) (h .residual) (h .priorities) (h .nodes) (h .queued) vs) ≡ counted settings v (stateOf n h)
 unfolding stateOf stateIn counted
 counted-state settings n v h q vs y a m l = rw (marks-set n v (h .visited) vs m l, a .same-size, a .threshold-is, add-one, y .count)
 
 -- v left the queue
-pub queued-state : (n v : ℕ) (h : Held) (q : WorkQueue) (ps : List Float) (ns : List ℕ) → q .threshold ≡ h .p .queue .threshold
+pub queued-state : (n v : ℕ) (h : Holding) (q : WorkQueue) (ps : List Float) (ns : List ℕ) → q .threshold ≡ h .p .queue .threshold
     → waiting (q .size) ps ns ≡ set (stateOf n h .slots) v out
-    → stateOf n (held (progress q (h .p .pushes)) (h .estimate) (h .residual) ps ns (h .queued) (h .visited)) ≡ queued (set (stateOf n h .slots) v out) (stateOf n h)
+    → stateOf n (holding (progress q (h .p .pushes)) (h .estimate) (h .residual) ps ns (h .queued) (h .visited)) ≡ queued (set (stateOf n h .slots) v out) (stateOf n h)
 unfolding stateOf stateIn queued
 queued-state n v h q ps ns t w = rw (t, w)

@@ -10,12 +10,12 @@ use Rattle.queue.specs.Waiting.{best, next}
 use Rattle.queue.specs.declared.WorkQueue.{WorkQueue}
 use Rattle.rules.specs.Ways.{Way}
 use Rattle.rules.specs.Rules.{State, thresholdAfter, turn}
-use Rattle.pushes.specs.States.{Held, waitsOf, stateOf, SameBeyond}
+use Rattle.pushes.specs.States.{Holding, pendingOf, stateOf, SameBeyond}
 use Rattle.pushes.specs.Buffers.{Lent}
 
 -- the whole state
-pub record Visited (meant : Way → Type 0) (f : Way → State → State) (n : ℕ) (h h′ : Held) : Type 0 where
-  pub lent : Lent n (waitsOf h′)
+pub record Visited (meant : Way → Type 0) (f : Way → State → State) (n : ℕ) (h h′ : Holding) : Type 0 where
+  pub lent : Lent n (pendingOf h′)
   pub state : (way : Way) → meant way → stateOf n h′ ≡ f way (stateOf n h)
   pub beyond : SameBeyond n (h .visited) (h′ .visited)
 
@@ -25,7 +25,7 @@ pub record Adapted (adaptive : Bool) (pushes : ℕ) (q q′ : WorkQueue) : Type 
   pub same-size : q′ .size ≡ q .size
 
 -- the node that was next left the queue and was visited
-pub record Turned (meant : Way → Type 0) (settings : Settings) (n : ℕ) (h h′ : Held) : Type 0 where
+pub record Turned (meant : Way → Type 0) (settings : Settings) (n : ℕ) (h h′ : Holding) : Type 0 where
   pub node : ℕ
   pub priority : Float
   pub was-next : next (stateOf n h .slots) ≡ best node priority

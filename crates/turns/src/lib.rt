@@ -3,7 +3,7 @@
 ghost use Prim.Native.Nat.{_<_};
 ghost use lib.ListN.{length};
 ghost use Rattle.rules.specs.Rules as Rules;
-ghost use Rattle.pushes.specs.States.{heldIn, heldBefore, heldAfter};
+ghost use Rattle.pushes.specs.States.{holdingIn, holdingBefore, holdingAfter};
 ghost use Rattle.pushes.specs.Buffers.{listsIn, lists, Ready};
 ghost use Rattle.pushes.specs.Meant.{Stands};
 ghost use Rattle.turns.specs.Promises.{Visited, Adapted, Turned};
@@ -47,10 +47,10 @@ fn visit<'a>(
     visited: &mut [u64],
 ) -> Progress
     requires { ⌜ Ready (length (now degrees)) backward (listsIn starts columns «reverse_columns» weights «reverse_weights» degrees «out_degrees»)
-        (heldIn p estimate residual priorities nodes queued visited) × (v < length (now degrees)) × (p .pushes < settings .«max_pushes») ⌝ }
+        (holdingIn p estimate residual priorities nodes queued visited) × (v < length (now degrees)) × (p .pushes < settings .«max_pushes») ⌝ }
     ensures { λ r. ⌜ Visited (Stands (length (now (degrees .entry))) backward (lists starts columns «reverse_columns» weights «reverse_weights» degrees «out_degrees»))
         (λ way. Rules.visit way settings v) (length (now (degrees .entry)))
-        (heldBefore p estimate residual priorities nodes queued visited) (heldAfter r estimate residual priorities nodes queued visited) ⌝ }
+        (holdingBefore p estimate residual priorities nodes queued visited) (holdingAfter r estimate residual priorities nodes queued visited) ⌝ }
 {
     let at = v as usize;
     let q = p.queue;
@@ -101,9 +101,9 @@ pub fn turn<'a>(
     visited: &mut [u64],
 ) -> Progress
     requires { ⌜ Ready (length (now degrees)) backward (listsIn starts columns «reverse_columns» weights «reverse_weights» degrees «out_degrees»)
-        (heldIn p estimate residual priorities nodes queued visited) × (0 < p .queue .size) × (p .pushes < settings .«max_pushes») ⌝ }
+        (holdingIn p estimate residual priorities nodes queued visited) × (0 < p .queue .size) × (p .pushes < settings .«max_pushes») ⌝ }
     ensures { λ r. ⌜ Turned (Stands (length (now (degrees .entry))) backward (lists starts columns «reverse_columns» weights «reverse_weights» degrees «out_degrees»)) settings
-        (length (now (degrees .entry))) (heldBefore p estimate residual priorities nodes queued visited) (heldAfter r estimate residual priorities nodes queued visited) ⌝ }
+        (length (now (degrees .entry))) (holdingBefore p estimate residual priorities nodes queued visited) (holdingAfter r estimate residual priorities nodes queued visited) ⌝ }
 {
     let q = p.queue;
     let popped = queue::held::pop(q, priorities, nodes, queued);

@@ -6,7 +6,7 @@ use denote.Ref.{now}
 use lib.ListN.{length, drop, drop-of-length-le}
 use Rattle.graph.specs.Rows.{entriesOf}
 use Rattle.rules.specs.Rules.{each, pass}
-use Rattle.pushes.specs.States.{waits}
+use Rattle.pushes.specs.States.{pending}
 use Rattle.pushes.proofs.Spreading.{Spreading, one-passes}
 use borrow.Author.Needs.{needs}
 use Rattle.pushes.proofs.spread.Statement.{statement}
@@ -14,7 +14,7 @@ use Rattle.pushes.proofs.spread.Tie as tie
 
 abbrev Inv-loop : tie.InvT-loop
 Inv-loop backward rest degree columns weights degrees out-degrees residual₀ priorities₀ nodes₀ queued₀ w₀ i₀ residual priorities nodes queued w i =
-    Spreading backward rest degree columns weights degrees out-degrees (waits w₀ residual₀ priorities₀ nodes₀ queued₀) (waits w residual priorities nodes queued) i
+    Spreading backward rest degree columns weights degrees out-degrees (pending w₀ residual₀ priorities₀ nodes₀ queued₀) (pending w residual priorities nodes queued) i
 
 abbrev μ-loop : tie.MeasureT-loop
 μ-loop backward rest degree columns weights degrees out-degrees residual₀ priorities₀ nodes₀ queued₀ w₀ i₀ residual priorities nodes queued w i = length columns - i

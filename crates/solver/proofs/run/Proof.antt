@@ -5,7 +5,7 @@ use denote.Ref.{now}
 use lib.ListN.{length}
 use Rattle.rules.proofs.Ends.{measure, end-run}
 use Rattle.watching.specs.Watching.{watchIn}
-use Rattle.pushes.specs.States.{stateIn, held, stateOf}
+use Rattle.pushes.specs.States.{stateIn, holding, stateOf}
 use Rattle.pushes.specs.Buffers.{listsOf, listsIn}
 use Rattle.pushes.proofs.Standing.{wayIn, stands}
 use Rattle.solver.proofs.Running.{Running, going, goes, halts}
@@ -15,10 +15,10 @@ use Rattle.solver.proofs.run.Tie as tie
 abbrev Inv-loop : tie.InvT-loop
 Inv-loop settings backward watch starts columns reverse-columns weights reverse-weights degrees out-degrees estimate₀ residual₀ priorities₀ nodes₀ queued₀ visited₀ w₀ estimate residual priorities nodes queued visited w =
     Running settings backward (watchIn watch) (length degrees) (listsOf starts columns reverse-columns weights reverse-weights degrees out-degrees)
-    (held w₀ estimate₀ residual₀ priorities₀ nodes₀ queued₀ visited₀) (held w estimate residual priorities nodes queued visited)
+    (holding w₀ estimate₀ residual₀ priorities₀ nodes₀ queued₀ visited₀) (holding w estimate residual priorities nodes queued visited)
 
 abbrev μ-loop : tie.MeasureT-loop
-μ-loop settings backward watch starts columns reverse-columns weights reverse-weights degrees out-degrees estimate₀ residual₀ priorities₀ nodes₀ queued₀ visited₀ w₀ estimate residual priorities nodes queued visited w = measure settings (stateOf (length degrees) (held w estimate residual priorities nodes queued visited))
+μ-loop settings backward watch starts columns reverse-columns weights reverse-weights degrees out-degrees estimate₀ residual₀ priorities₀ nodes₀ queued₀ visited₀ w₀ estimate residual priorities nodes queued visited w = measure settings (stateOf (length degrees) (holding w estimate residual priorities nodes queued visited))
 
 loop-holds : tie.Need-loop-holds Inv-loop μ-loop
 loop-holds c = record { ready = c .before .before .before .before .before .before .before .before .before .before .before .before .before .pre; same-queued = refl; same-visited = refl; beyond = λ u h. refl; left = λ way st. refl }
@@ -47,7 +47,7 @@ loop-less c =
     let g = listsIn (a .starts) (a .columns) (a .reverse-columns) (a .weights) (a .reverse-weights) (a .degrees) (a .out-degrees) in
     let way = wayIn (a .backward) g in
     let st = stands n (a .backward) g in
-    goes (a .settings) (watchIn (a .watch)) (stateOf n (held (l .w) (l .estimate) (l .residual) (l .priorities) (l .nodes) (l .queued) (l .visited))) (l .w .queue .size)
+    goes (a .settings) (watchIn (a .watch)) (stateOf n (holding (l .w) (l .estimate) (l .residual) (l .priorities) (l .nodes) (l .queued) (l .visited))) (l .w .queue .size)
     (sym (c .before .before .before .before .before .before .before .before .before .before .before .before .before .before .before .before .before .before .before .before .goes-on .ensures n (l .priorities) (l .nodes) (l .visited)) ∙ c .before .before .before .before .before .before .before .before .before .before .before .before .before .before .before .before .before .before .before .if1 .taken) way (t .ensures .node) (t .ensures .priority) (t .ensures .was-next) _
     (t .ensures .after .state way st) .1
 
@@ -71,7 +71,7 @@ loop-again c =
       same-visited = t .kept .1 .1 .1 .1 .1 .1 .1 .1 .1 .1 .1 .1 .1 .1 .1 .0 ∙ l .inv .same-visited;
       beyond = λ u h. t .ensures .after .beyond u h ∙ l .inv .beyond u h;
       left = λ way st.
-          goes (a .settings) (watchIn (a .watch)) (stateOf n (held (l .w) (l .estimate) (l .residual) (l .priorities) (l .nodes) (l .queued) (l .visited))) (l .w .queue .size)
+          goes (a .settings) (watchIn (a .watch)) (stateOf n (holding (l .w) (l .estimate) (l .residual) (l .priorities) (l .nodes) (l .queued) (l .visited))) (l .w .queue .size)
           (sym (c .before .before .before .before .before .before .before .before .before .before .before .before .before .before .before .before .before .before .before .before .goes-on .ensures n (l .priorities) (l .nodes) (l .visited)) ∙ c .before .before .before .before .before .before .before .before .before .before .before .before .before .before .before .before .before .before .before .if1 .taken) way (t .ensures .node) (t .ensures .priority) (t .ensures .was-next) _
           (t .ensures .after .state way st) .0
           ∙ l .inv .left way st;
@@ -105,7 +105,7 @@ returns c =
     record {
       lent = y .lent;
       state = λ way st turns e.
-          halts (a .settings) (watchIn (a .watch)) (stateOf n (held (l .w) (l .estimate) (l .residual) (l .priorities) (l .nodes) (l .queued) (l .visited))) (l .w .queue .size)
+          halts (a .settings) (watchIn (a .watch)) (stateOf n (holding (l .w) (l .estimate) (l .residual) (l .priorities) (l .nodes) (l .queued) (l .visited))) (l .w .queue .size)
           (sym (c .before .goes-on .ensures n (l .priorities) (l .nodes) (l .visited)) ∙ c .if1 .left) (y .lent .heap .count) way
           ∙ l .inv .left way st ∙ end-run way (a .settings) (watchIn (a .watch)) turns _ e;
       beyond = l .inv .beyond;

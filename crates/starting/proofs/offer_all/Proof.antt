@@ -5,7 +5,7 @@ use mathlib.Core.Path.{refl, sym, ap, _∙_}
 use denote.Ref.{now}
 use lib.ListN.{length, drop, drop-of-length-le}
 use Rattle.rules.specs.Rules.{each, inside, offer}
-use Rattle.pushes.specs.States.{waits}
+use Rattle.pushes.specs.States.{pending}
 use Rattle.starting.proofs.Sources.{Offering, one-more}
 use borrow.Author.Needs.{needs}
 use Rattle.starting.proofs.offer_all.Statement.{statement}
@@ -13,7 +13,7 @@ use Rattle.starting.proofs.offer_all.Tie as tie
 
 abbrev Inv-loop : tie.InvT-loop
 Inv-loop sources degrees residual priorities₀ nodes₀ queued₀ w₀ i₀ priorities nodes queued w i =
-    Offering sources degrees (waits w₀ residual priorities₀ nodes₀ queued₀) (waits w residual priorities nodes queued) i
+    Offering sources degrees (pending w₀ residual priorities₀ nodes₀ queued₀) (pending w residual priorities nodes queued) i
 
 abbrev μ-loop : tie.MeasureT-loop
 μ-loop sources degrees residual priorities₀ nodes₀ queued₀ w₀ i₀ priorities nodes queued w i = length sources - i

@@ -3,7 +3,7 @@ use mathlib.Core.Path.{ap, _∙_}
 use denote.Ref.{now}
 use lib.ListN.{length}
 use Rattle.rules.specs.Rules.{visit, turn}
-use Rattle.pushes.specs.States.{stateIn, stateOf, heldIn}
+use Rattle.pushes.specs.States.{stateIn, stateOf, holdingIn}
 use Rattle.turns.proofs.Moves.{queued-state}
 use borrow.Author.Needs.{needs}
 use Rattle.turns.proofs.turn.Statement.{statement}
@@ -64,7 +64,7 @@ returns c =
             state = λ way st.
                 v .ensures .state way st
                 ∙ ap (visit way (a .settings) (o .result .node))
-                (queued-state (length (now (a .degrees))) (o .result .node) (heldIn (a .p) (a .estimate) (a .residual) (a .priorities) (a .nodes) (a .queued) (a .visited))
+                (queued-state (length (now (a .degrees))) (o .result .node) (holdingIn (a .p) (a .estimate) (a .residual) (a .priorities) (a .nodes) (a .queued) (a .visited))
                 (o .result .queue) (o .last .1 .0) (o .last .1 .1 .0) (o .ensures .0) (o .ensures .1 .left .view));
             beyond = v .ensures .beyond;
           };

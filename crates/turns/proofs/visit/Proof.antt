@@ -4,7 +4,7 @@ use mathlib.Core.Path.{refl, ap, _∙_}
 use denote.Ref.{now}
 use lib.ListN.{length}
 use Rattle.rules.specs.Rules.{counted}
-use Rattle.pushes.specs.States.{progress, stateIn, held, stateOf}
+use Rattle.pushes.specs.States.{progress, stateIn, holding, stateOf}
 use Rattle.turns.proofs.Moves.{marks-beyond, counted-state}
 use Rattle.pushes.proofs.Standing.{weighs}
 use Rattle.turns.proofs.Visits.{visit-skips, visit-counts}
@@ -85,7 +85,7 @@ returns-2 c =
       lent = let l = o .ensures .lent in record { heap = rw (c .adapt .ensures .same-size) (l .heap); wide = l .wide; residual-long = l .residual-long };
       state = λ way st.
           let w = weighs (s .pre .0 .rows) way st (a .v) (s .pre .1) in
-          counted-state (a .settings) (length (now (a .degrees))) (a .v) (held (progress (o .result) (a .p .pushes)) _ _ _ _ _ (now (a .visited))) _ (m .last .0) (o .ensures .lent .heap)
+          counted-state (a .settings) (length (now (a .degrees))) (a .v) (holding (progress (o .result) (a .p .pushes)) _ _ _ _ _ (now (a .visited))) _ (m .last .0) (o .ensures .lent .heap)
           (c .adapt .ensures) (m .ensures) (s .pre .1)
           ∙ ap (counted (a .settings) (a .v)) (o .ensures .state way st (a .p .pushes) (now (a .visited)))
           ∙ visit-counts way (a .settings) (a .v) _ _ _ w (c .before .before .before .before .before .before .before .before .before .before .before .before .before .before .before .before .before .before .before .before .before .before .before .before .effective .ensures) (c .before .before .before .before .before .before .before .before .before .before .before .before .before .before .before .before .before .before .before .before .before .before .if1 .left);
