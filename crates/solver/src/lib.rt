@@ -84,7 +84,7 @@ fn run<'a>(
     w
 }
 
-// A whole solve, whatever the buffers holding. The starts and the degrees are those of the direction,
+// A whole solve, whatever the buffers held. The starts and the degrees are those of the direction,
 // and `out_degrees` are the out-degrees. Forward reads no reverse list: lend the others twice.
 pub fn solve<'a>(
     settings: Settings,

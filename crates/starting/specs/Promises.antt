@@ -18,7 +18,7 @@ pub record Gained (f : State → State) (residual residual′ : List Float) : Ty
   pub state : (n : ℕ) (estimate : List Float) (p : Progress) (priorities : List Float) (nodes visited : List ℕ)
       → stateIn n estimate residual′ p priorities nodes visited ≡ f (stateIn n estimate residual p priorities nodes visited)
 
--- the whole state, by the way and by nothing that the buffers holding before
+-- the whole state, by the way and by nothing that the buffers held before
 pub record LeavesState (meant : Way → Type 0) (f : Way → State) (n : ℕ) (h : Holding) : Type 0 where
   pub lent : Lent n (pendingOf h)
   pub state : (way : Way) → meant way → stateOf n h ≡ f way

@@ -81,7 +81,7 @@ fn offer_all(
     w
 }
 
-// Nothing anywhere, whatever the buffers holding.
+// Nothing anywhere, whatever the buffers held.
 fn blank(
     threshold: f64,
     estimate: &mut [f64],
@@ -102,7 +102,7 @@ fn blank(
     Progress { queue, pushes: 0 }
 }
 
-// The state before the first turn, whatever the buffers holding.
+// The state before the first turn, whatever the buffers held.
 pub fn start(
     settings: Settings,
     watch: Watch,
