@@ -3,4 +3,4 @@ pub mod Under
 pub mod Stores
 pub mod Exchanging
 mod Climb
-mod Sink
+mod Descent

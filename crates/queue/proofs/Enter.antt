@@ -16,7 +16,7 @@ use Rattle.queue.specs.Waiting.{Slot, out, waits, taken, offered}
 use Rattle.heap.specs.Entries.{WorkItem, entries, parent, Numbers}
 use Rattle.queue.specs.Heap.{filled, waiting, isWaiting, Heap}
 use Rattle.queue.specs.Promises.{Holds}
-use Rattle.heap.specs.Steps.{OrderedBut, Climbed}
+use Rattle.heap.specs.Steps.{put, OrderedBut, Climbed}
 use Rattle.heap.proofs.Stores.{put-here, put-elsewhere}
 use Rattle.heap.proofs.Exchanging.{under-by}
 use Rattle.queue.proofs.Taken.{Free, taken-more, taken-length}
@@ -67,44 +67,44 @@ module _ (size : ℕ) (ps : List Float) (ns ws : List ℕ) (H : Heap size ps ns 
 
   -- ---- the node enters
   module _ (t p : Float) (reach : le t p ≡ true) (m : marked ws v ≡ false) (ps′ : List Float) (ns′ ws′ : List ℕ) (same-ps : length ps′ ≡ length ps)
-      (same-ns : length ns′ ≡ length ns) (c : Climbed size (entries (set ps size p) (set ns size v)) (entries ps′ ns′)) (w : WithMark true ws ws′ v) where
+      (same-ns : length ns′ ≡ length ns) (c : Climbed size (put size (record { priority = p; node = v }) (entries ps ns)) (entries ps′ ns′)) (w : WithMark true ws ws′ v) where
     -- the entries with the new one at the last place, before it climbs
-    abbrev put : ℕ → WorkItem
-    put = entries (set ps size p) (set ns size v)
+    abbrev joined : ℕ → WorkItem
+    joined = put size (record { priority = p; node = v }) (entries ps ns)
 
-    put-last : put size ≡ record { priority = p; node = v }
-    put-last = put-here ps ns size p v (has-room m) (omega (arith, has-room m, H .paired))
+    joined-last : joined size ≡ record { priority = p; node = v }
+    joined-last = put-here size (record { priority = p; node = v }) (entries ps ns)
 
-    put-old : (k : ℕ) → k < size → put k ≡ entries ps ns k
-    put-old k h = put-elsewhere ps ns size p v k (omega arith)
+    joined-old : (k : ℕ) → k < size → joined k ≡ entries ps ns k
+    joined-old k h = put-elsewhere size (record { priority = p; node = v }) (entries ps ns) k (omega arith)
 
     -- they fill the queue with the node in it
-    put-fills : filled (length ps) put (suc size) ≡ set slots v (waits p)
+    joined-fills : filled (length ps) joined (suc size) ≡ set slots v (waits p)
     unfolding filled waiting
-    put-fills =
-        ap₂ (λ (a : WorkItem) (l : List Slot). set l (a .node) (waits (a .priority))) put-last (filled-same (length ps) (entries ps ns) put size put-old)
+    joined-fills =
+        ap₂ (λ (a : WorkItem) (l : List Slot). set l (a .node) (waits (a .priority))) joined-last (filled-same (length ps) (entries ps ns) joined size joined-old)
 
-    put-full : Full (length ps) put (suc size)
-    put-full = ap taken put-fills ∙ taken-more slots v p (free m) ∙ ap suc (H .count)
+    joined-full : Full (length ps) joined (suc size)
+    joined-full = ap taken joined-fills ∙ taken-more slots v p (free m) ∙ ap suc (H .count)
 
-    put-numbers : Numbers (suc size) put
-    put-numbers k h = go (ℕ-discrete k size)
+    joined-numbers : Numbers (suc size) joined
+    joined-numbers k h = go (ℕ-discrete k size)
       where
-        go : Dec (k ≡ size) → isNan (put k .priority) ≡ false
-        go (yes e) = ap (λ (i : ℕ). isNan (put i .priority)) e ∙ ap (λ (a : WorkItem). isNan (a .priority)) put-last ∙ le-number-right t p (of-true reach)
-        go (no e) = let old : k < size = omega arith in ap (λ (a : WorkItem). isNan (a .priority)) (put-old k old) ∙ H .numbers k old
+        go : Dec (k ≡ size) → isNan (joined k .priority) ≡ false
+        go (yes e) = ap (λ (i : ℕ). isNan (joined i .priority)) e ∙ ap (λ (a : WorkItem). isNan (a .priority)) joined-last ∙ le-number-right t p (of-true reach)
+        go (no e) = let old : k < size = omega arith in ap (λ (a : WorkItem). isNan (a .priority)) (joined-old k old) ∙ H .numbers k old
 
-    put-ordered : OrderedBut (λ j. j ≡ size) (suc size) put size
-    put-ordered =
+    joined-ordered : OrderedBut (λ j. j ≡ size) (suc size) joined size
+    joined-ordered =
         record {
-          numbers = put-numbers;
-          rest = λ j a b ne. under-by (put-old j (omega arith)) (put-old (parent j) (omega arith)) (H .ordered j a (omega arith));
+          numbers = joined-numbers;
+          rest = λ j a b ne. under-by (joined-old j (omega arith)) (joined-old (parent j) (omega arith)) (H .ordered j a (omega arith));
           past = λ j a b e z. absurd (omega arith);
         }
 
     -- and settle there
     holds : Holds (set slots v (waits p)) (length ps) (length ws) (suc size) ps′ ns′ ws′
-    holds = settles H v (waits p) (c (suc size) (le-refl (suc size))) put-ordered put-full put-fills (has-room m) same-ps same-ns w
+    holds = settles H v (waits p) (c (suc size) (le-refl (suc size))) joined-ordered joined-full joined-fills (has-room m) same-ps same-ns w
 
     pub enters : Holds (offered t v p slots) (length ps) (length ws) (size + 1) ps′ ns′ ws′
     enters = rw (add-one size, offered-free t v p slots reach (free m .empty)) holds

@@ -1,4 +1,4 @@
--- The first entry's node is next, and leaves: its entry goes to the last place, the heap is one shorter, and what came to the front sinks. Assumes nothing.
+-- The first entry's node is next, and leaves: the heap is one shorter, and the last entry sinks from the front. Assumes nothing.
 use mathlib.Core.Path.{_≡_, refl, sym, ap, _∙_}
 use mathlib.Core.Logic.{_⊎_, inl, inr}
 use mathlib.Core.Bool.{false}
@@ -9,17 +9,18 @@ use native.Mathlib.Decide.{ℕ-discrete, decLt}
 use native.Mathlib.Omega.{arith}
 use lib.ListN.{length, getD, set, List·getD-eq-default}
 use lib.Seq.{set-set, set-getD}
-use lib.Ieee.{Float}
+use lib.Ieee.{Float, isNan}
 use Rattle.marks.specs.Marks.{WithMark}
 use Rattle.queue.specs.Waiting.{Slot, out, waits, taken, best, next}
 use Rattle.heap.specs.Entries.{WorkItem, entries, Under, parent}
 use Rattle.queue.specs.Heap.{filled, waiting, Heap}
 use Rattle.queue.specs.Promises.{Removed}
-use Rattle.heap.specs.Steps.{Exchanged, Among, OrderedBut, Sunk}
+use Rattle.heap.specs.Steps.{put, Among, OrderedBut, Sunk}
 use Rattle.heap.proofs.Under.{under-reflexive, under-transitive}
-use Rattle.heap.proofs.Exchanging.{among-exchanged, among-back, numbers-among, under-by}
+use Rattle.heap.proofs.Stores.{put-here, put-elsewhere}
+use Rattle.heap.proofs.Exchanging.{Exchanged, among-exchanged, among-back, numbers-among, under-by}
 use Rattle.queue.proofs.Taken.{out-waits}
-use Rattle.queue.proofs.Filled.{Full, Last, last-of, node-inside, slot-of, slot-at, filled-among}
+use Rattle.queue.proofs.Filled.{Full, Last, last-of, node-inside, slot-of, slot-at, filled-same, filled-among}
 use Rattle.queue.proofs.Settle.{waiting-length, settles}
 use Rattle.queue.proofs.Best.{next-is}
 
@@ -68,14 +69,31 @@ module _ (size : ℕ) (ps : List Float) (ns ws : List ℕ) (H : Heap size ps ns 
             | inr r ↦ out-waits (getD slots v out) p (r .slot) s
           ]
 
-  -- ---- the entries exchanged, and then settled among all but the last
-  module _ (e₁ : ℕ → WorkItem) (x : Exchanged 0 (size - 1) e e₁) (ps′ : List Float) (ns′ ws′ : List ℕ) (same-ps : length ps′ ≡ length ps)
-      (same-ns : length ns′ ≡ length ns) (d : Sunk 0 (size - 1) e₁ (entries ps′ ns′)) (w : WithMark false ws ws′ (first .node)) where
-    abbrev m : ℕ
-    m = size - 1
+  -- ---- the last entry is carried to the front, and sinks among all but the last
+  abbrev m : ℕ
+  m = size - 1
 
+  abbrev front : ℕ → WorkItem
+  front = put 0 (e m) e
+
+  module _ (ps′ : List Float) (ns′ ws′ : List ℕ) (same-ps : length ps′ ≡ length ps) (same-ns : length ns′ ≡ length ns)
+      (d : Sunk 0 (size - 1) (put 0 (entries ps ns (size - 1)) (entries ps ns)) (entries ps′ ns′)) (w : WithMark false ws ws′ (first .node)) where
     one-more : size ≡ suc m
     one-more = omega arith
+
+    -- as if the first went to the last place: the two are exchanged
+    abbrev e₁ : ℕ → WorkItem
+    e₁ = put m first front
+
+    x : Exchanged 0 m e e₁
+    x = record { first = go (ℕ-discrete 0 m); second = put-here m first front; others = λ k a b. put-elsewhere m first front k b ∙ put-elsewhere 0 (e m) e k a }
+      where
+        go : Dec (0 ≡ m) → e₁ 0 ≡ e m
+        go (yes z) = ap e₁ z ∙ put-here m first front ∙ ap e z
+        go (no z) = put-elsewhere m first front 0 z ∙ put-here 0 (e m) e
+
+    before-last : (k : ℕ) → k < m → e₁ k ≡ front k
+    before-last k h = put-elsewhere m first front k (omega arith)
 
     comes : Among size e e₁
     comes = among-exchanged size pos (omega arith) x
@@ -99,12 +117,19 @@ module _ (size : ℕ) (ps : List Float) (ns ws : List ℕ) (H : Heap size ps ns 
         ∙ ap (λ (l : List Slot). set l (e₁ m .node) out) exchanged-fills
         ∙ ap (λ (a : WorkItem). set slots (a .node) out) (x .second)
 
-    ordered-left : OrderedBut (λ j. (j ≡ 0) ⊎ (parent j ≡ 0)) m e₁ 0
+    -- and they are those at the front
+    front-fills : filled (length ps) front m ≡ set slots (first .node) out
+    front-fills = sym (filled-same (length ps) front e₁ m before-last) ∙ rest-fills
+
+    front-full : Full (length ps) front m
+    front-full = ap taken (sym (filled-same (length ps) front e₁ m before-last)) ∙ last .before
+
+    ordered-left : OrderedBut (λ j. (j ≡ 0) ⊎ (parent j ≡ 0)) m front 0
     ordered-left =
         record {
-          numbers = λ k h. numbers-among size e e₁ comes (H .numbers) k (omega arith);
+          numbers = λ k h. ap (λ (a : WorkItem). isNan (a .priority)) (sym (before-last k h)) ∙ numbers-among size e e₁ comes (H .numbers) k (omega arith);
           rest = λ j a b ne.
-              under-by (x .others j (omega arith) (omega arith)) (x .others (parent j) (λ q. ne (inr q)) (omega arith)) (H .ordered j a (omega arith));
+              under-by (put-elsewhere 0 (e m) e j (omega arith)) (put-elsewhere 0 (e m) e (parent j) (λ q. ne (inr q))) (H .ordered j a (omega arith));
           past = λ j a b s z. absurd (omega arith);
         }
 
@@ -114,5 +139,5 @@ module _ (size : ℕ) (ps : List Float) (ns ws : List ℕ) (H : Heap size ps ns 
           priority = first .priority;
           was-next = first-next;
           inside = first-inside;
-          left = settles H (first .node) out d ordered-left (last .before) rest-fills (omega (arith, H .fits)) same-ps same-ns w;
+          left = settles H (first .node) out d ordered-left front-full front-fills (omega (arith, H .fits)) same-ps same-ns w;
         }

@@ -1,7 +1,6 @@
 -- `queue::pop` meets its contract, by `leaves`. Assumes nothing.
-use mathlib.Core.Path.{refl, _∙_}
+use mathlib.Core.Path.{refl}
 use native.Mathlib.Omega.{arith}
-use Rattle.heap.specs.Entries.{entries}
 use Rattle.queue.proofs.Leave.{first-inside, leaves}
 use borrow.Author.Needs.{needs}
 use Rattle.queue.proofs.pop.Statement.{statement}
@@ -16,15 +15,24 @@ cast-last c = search needs
 slice-read-node : tie.Need-slice-read-node
 slice-read-node c = search needs
 
-exchange-requires : tie.Need-exchange-requires
-exchange-requires c κs = search needs
+mul-p : tie.Need-mul-p
+mul-p c = search needs
+
+slice-read-p : tie.Need-slice-read-p
+slice-read-p c = search needs
+
+mul-v : tie.Need-mul-v
+mul-v c = search needs
+
+slice-read-v : tie.Need-slice-read-v
+slice-read-v c = search needs
 
 sift-down-requires : tie.Need-sift-down-requires
 sift-down-requires c κs = search needs
 
 unmark-requires : tie.Need-unmark-requires
 unmark-requires c κs =
-    let s = c .before .before .before .before .before .before .before .before .before .before .before .before .before .before .before .before .before .before .before .before in
+    let s = c .before .before .before .before .before .before .before .before .before .before .before .before .before .before .before in
     let a = s .args in
     omega (arith, first-inside (a .q .size) (a .priorities .now) (a .nodes .now) (a .marks .now) (s .pre .0) (s .pre .1), s .pre .0 .room)
 
@@ -39,14 +47,13 @@ same-length-3 c = search needs
 
 returns : tie.Need-returns
 returns c =
-    let s = c .before .before .before .before .before .before .before .before .before .before .before .before .before .before .before .before .before .before .before .before .before .before .before in
+    let s = c .before .before .before .before .before .before .before .before .before .before .before .before .before .before .before .before .before .before in
     let a = s .args in
-    let x = c .before .before .before .before .before .before .before .before .before .before .before .before .before .before .before .exchange in
     let u = c .before .before .before .before .before .before .before .before .sift-down in
     let m = c .before .before .unmark in (
       refl,
-      leaves (a .q .size) (a .priorities .now) (a .nodes .now) (a .marks .now) (s .pre .0) (s .pre .1) (entries (x .last .0) (x .last .1 .0)) (x .ensures)
-          (u .last .0) (u .last .1 .0) (m .last .0) (u .kept .0 ∙ x .kept .0) (u .kept .1 .0 ∙ x .kept .1 .0) (u .ensures) (m .ensures),
+      leaves (a .q .size) (a .priorities .now) (a .nodes .now) (a .marks .now) (s .pre .0) (s .pre .1) (u .last .0) (u .last .1 .0) (m .last .0)
+          (u .kept .0) (u .kept .1 .0) (u .ensures) (m .ensures),
     )
 
 pub pop-spec : {M : Type 1} → statement M
@@ -56,7 +63,10 @@ pop-spec =
     sub-size
     cast-last
     slice-read-node
-    exchange-requires
+    mul-p
+    slice-read-p
+    mul-v
+    slice-read-v
     sift-down-requires
     unmark-requires
     same-length

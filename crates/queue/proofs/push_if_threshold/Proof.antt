@@ -2,7 +2,7 @@
 use mathlib.Core.Path.{refl, sym, _∙_}
 use Prim.Native.Nat.{_<_}
 use native.Mathlib.Omega.{arith}
-use lib.ListN.{length, length-set}
+use lib.ListN.{length}
 use borrow.Author.Needs.{needs}
 use Rattle.queue.proofs.Enter.{has-room, stays-below, stays-held, enters}
 use Rattle.queue.proofs.push_if_threshold.Statement.{statement}
@@ -33,32 +33,20 @@ room c =
 cast-at : tie.Need-cast-at
 cast-at c = search needs
 
-mul-priorities : tie.Need-mul-priorities
-mul-priorities c = search needs
-
-slice-write-priorities : tie.Need-slice-write-priorities
-slice-write-priorities c = room c
-
-mul-nodes : tie.Need-mul-nodes
-mul-nodes c = search needs
-
-slice-write-nodes : tie.Need-slice-write-nodes
-slice-write-nodes c = omega (arith, room c, c .before .before .before .before .before .before .before .pre .0 .paired)
-
 sift-up-requires : tie.Need-sift-up-requires
-sift-up-requires c κs = simp length-set (omega (arith, room (c .before .before), c .before .before .before .before .before .before .before .before .before .pre .0 .paired))
+sift-up-requires c κs = omega (arith, room (c .before .before), c .before .before .before .before .before .before .before .before .before .pre .0 .paired)
 
 mark-requires : tie.Need-mark-requires
 mark-requires c κs = search needs
 
-add-t24 : tie.Need-add-t24
-add-t24 c = search needs
+add-t21 : tie.Need-add-t21
+add-t21 c = search needs
 
 same-length-2 : tie.Need-same-length-2
-same-length-2 c = let a = c .before .before .before .before .before .before .before .before .before .before .before .before .before .before .before .before .before .before .args in c .before .before .before .before .before .before .before .before .sift-up .kept .0 ∙ length-set (a .priorities .now) (a .q .size) (a .priority)
+same-length-2 c = c .before .before .before .before .before .before .before .before .sift-up .kept .0
 
 same-length-3 : tie.Need-same-length-3
-same-length-3 c = let a = c .before .before .before .before .before .before .before .before .before .before .before .before .before .before .before .before .before .before .args in c .before .before .before .before .before .before .before .before .sift-up .kept .1 .0 ∙ length-set (a .nodes .now) (a .q .size) (a .v)
+same-length-3 c = c .before .before .before .before .before .before .before .before .sift-up .kept .1 .0
 
 same-length-4 : tie.Need-same-length-4
 same-length-4 c = search needs
@@ -71,8 +59,7 @@ returns-2 c =
     let m = c .before .before .mark in (
       refl,
       enters (a .q .size) (a .priorities .now) (a .nodes .now) (a .marks .now) (s .pre .0) (a .v) (s .pre .1) (a .q .threshold) (a .priority)
-          (c .before .before .before .before .before .before .before .before .before .before .before .before .before .before .if1 .taken) (sym (c .before .before .before .before .before .before .before .before .before .before .before .before .is-marked .ensures) ∙ c .before .before .before .before .before .before .before .before .before .before .before .if2 .left) (u .last .0) (u .last .1 .0) (m .last .0)
-          (u .kept .0 ∙ length-set (a .priorities .now) (a .q .size) (a .priority)) (u .kept .1 .0 ∙ length-set (a .nodes .now) (a .q .size) (a .v))
+          (c .before .before .before .before .before .before .before .before .before .before .before .before .before .before .if1 .taken) (sym (c .before .before .before .before .before .before .before .before .before .before .before .before .is-marked .ensures) ∙ c .before .before .before .before .before .before .before .before .before .before .before .if2 .left) (u .last .0) (u .last .1 .0) (m .last .0) (u .kept .0) (u .kept .1 .0)
           (u .ensures) (m .ensures),
     )
 
@@ -90,13 +77,9 @@ push-if-threshold-spec =
     same-length
     returns
     cast-at
-    mul-priorities
-    slice-write-priorities
-    mul-nodes
-    slice-write-nodes
     sift-up-requires
     mark-requires
-    add-t24
+    add-t21
     same-length-2
     same-length-3
     same-length-4

@@ -1,12 +1,13 @@
 //! Measures the proved library beside the Rust, in one run, and prints tables in Markdown. A ratio above 1 says that the
 //! proved library takes longer.
 //!
-//! measure [calls | job | growth | names | once NAME [ours | theirs | neither]]
+//! measure [calls | job | growth | names | once NAME [ours | theirs | neither] | stores NAME (default | zero) PUSHES]
 //!
 //! Without a word it measures everything: each call by itself, the job program, and growth with nodes and with links,
 //! which draws docs/growth-nodes.svg and docs/growth-links.svg. With `once` both sides work once, untimed, or one of them,
 //! or neither, for a tool that counts instructions: NAME is one of those that `names` prints. `once job` prints a job at its
-//! limits, for `job` and `rust_job` to read.
+//! limits, for `job` and `rust_job` to read. `stores` prints where the queue's two buffers lie, and solves with default
+//! settings or with thresholds of zero, for a tool that counts the stores into them.
 mod given;
 mod graph;
 mod growth;
@@ -22,7 +23,9 @@ mod theirs;
 mod work;
 
 use given::Given;
+use runs::calls::call::Wish;
 use runs::calls::entry::{Entry, Question, Solver, BUILDERS};
+use runs::entries::Settings;
 use std::env;
 use std::hint::black_box;
 use std::io::Write;
@@ -43,7 +46,9 @@ fn main() {
         ["once", "job"] => std::io::stdout().write_all(&job::largest()).expect("bytes can be printed"),
         ["once", name] => once(name, "both"),
         ["once", name, side @ ("ours" | "theirs" | "neither")] => once(name, side),
-        _ => panic!("measure [calls | job | growth | names | once NAME [ours | theirs | neither]]"),
+        ["stores", name, "default", pushes] => stores(name, Settings::DEFAULT, pushes),
+        ["stores", name, "zero", pushes] => stores(name, solves::all_of(0), pushes),
+        _ => panic!("measure [calls | job | growth | names | once NAME [ours | theirs | neither] | stores NAME (default | zero) PUSHES]"),
     }
 }
 
@@ -73,13 +78,29 @@ fn once(name: &str, side: &str) {
     if name == graph::WHOLE {
         return graph::whole(&given).once(side);
     }
-    let entry = entries().find(|entry| entry.name() == name).expect("one of the names that `measure names` prints");
+    let entry = named(name);
     given.wish.settings.max_pushes = 100_000;
     given.wish.backward_settings = solves::all_of(100_000);
     if let Entry::Solve(Question { solver: Solver::Backward, .. }, _) = entry {
         given.wish.settings = given.wish.backward_settings;
     }
     given.work(entry).once(side);
+}
+
+/// A solve on 1,000 nodes and 10,000 links with at most so many pushes. The addresses of each buffer are printed before it.
+fn stores(name: &str, settings: Settings, pushes: &str) {
+    let given = Given::new(1_000, 10_000);
+    let settings = Settings { max_pushes: pushes.parse().expect("a number of pushes"), ..settings };
+    let mut ours = given.ours(named(name), &Wish { settings, ..given.wish.clone() });
+    for buffer in ["priorities", "nodes"] {
+        let addresses = ours.addresses(buffer);
+        println!("{:x} {:x}", addresses.start, addresses.end);
+    }
+    keep(ours.make());
+}
+
+fn named(name: &str) -> Entry {
+    entries().find(|entry| entry.name() == name).expect("one of the names that `measure names` prints")
 }
 
 /// Keeps a result that nothing reads, so that the work for it is done.

@@ -6,6 +6,7 @@ use runs::calls::make::{make, Read};
 use runs::calls::outcome::Returned;
 use runs::calls::shape::Kind;
 use std::mem::size_of_val;
+use std::ops::Range;
 use Space::{Real, Whole, Wide};
 
 pub struct Ours {
@@ -41,6 +42,12 @@ impl Ours {
         make(&self.call, &read, &mut self.written.iter_mut().map(Space::lend)).into()
     }
 
+    /// Where the buffer of that name lies.
+    pub fn addresses(&self, name: &str) -> Range<usize> {
+        let place = self.call.entry.written().iter().position(|shape| shape.name == name).expect("a buffer of the call");
+        self.written[place].addresses()
+    }
+
     /// The bytes that it is lent to write.
     pub fn lent(&self) -> usize {
         self.written.iter().map(Space::bytes).sum()
@@ -62,6 +69,15 @@ impl Space {
             Wide(words) => Slice::Wide(words),
             Real(words) => Slice::Real(words),
         }
+    }
+
+    fn addresses(&self) -> Range<usize> {
+        let start = match self {
+            Whole(words) => words.as_ptr() as usize,
+            Wide(words) => words.as_ptr() as usize,
+            Real(words) => words.as_ptr() as usize,
+        };
+        start..start + self.bytes()
     }
 
     fn bytes(&self) -> usize {
