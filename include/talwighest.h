@@ -60,10 +60,10 @@
 #include <stdint.h>
 
 /* CHANGELOG.md, in the repository, says what each version changed. */
-#define TALWIGHEST_VERSION "0.2.1"
+#define TALWIGHEST_VERSION "0.2.2"
 #define TALWIGHEST_VERSION_MAJOR 0
 #define TALWIGHEST_VERSION_MINOR 2
-#define TALWIGHEST_VERSION_PATCH 1
+#define TALWIGHEST_VERSION_PATCH 2
 
 #ifdef __cplusplus
 extern "C" {

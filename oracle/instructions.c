@@ -67,6 +67,7 @@ static void store(unsigned int processor, uint32_t about, uint64_t address, void
     size_t i;
     (void)processor;
     (void)unused;
+    /* It was asked for stores alone, but QEMU 7.2 tells it of loads too. */
     if (!qemu_plugin_mem_is_store(about)) return;
     for (i = 0; i < range_count; i++)
         if (ranges[i].low <= address && address < ranges[i].high) ranges[i].stores++;

@@ -48,7 +48,10 @@ fn main() {
         ["once", name, side @ ("ours" | "theirs" | "neither")] => once(name, side),
         ["stores", name, "default", pushes] => stores(name, Settings::DEFAULT, pushes),
         ["stores", name, "zero", pushes] => stores(name, solves::all_of(0), pushes),
-        _ => panic!("measure [calls | job | growth | names | once NAME [ours | theirs | neither] | stores NAME (default | zero) PUSHES]"),
+        _ => panic!(
+            "measure [calls | job | growth | names | once NAME [ours | theirs | neither] \
+             | stores NAME (default | zero) PUSHES]"
+        ),
     }
 }
 
