@@ -117,7 +117,7 @@ module _ (size : ℕ) (ps : List Float) (ns ws : List ℕ) (H : Heap size ps ns 
         ∙ ap (λ (l : List Slot). set l (e₁ m .node) out) exchanged-fills
         ∙ ap (λ (a : WorkItem). set slots (a .node) out) (x .second)
 
-    -- and they are those at the front
+    -- and so do those that sink, which are the same before the last place
     front-fills : filled (length ps) front m ≡ set slots (first .node) out
     front-fills = sym (filled-same (length ps) front e₁ m before-last) ∙ rest-fills
 
