@@ -1,4 +1,4 @@
-/* From C: the rows of four links among three nodes, of which one is dropped, and their degrees. */
+/* From C: the rows of four links among three nodes, of which one is dropped, their degrees, and which nodes are linked. */
 #include "talwighest.h"
 
 #include <stdio.h>
@@ -25,6 +25,21 @@ int main(void) {
             printf(" to %u at %g", columns[place], weights[place]);
         }
         printf("\n");
+    }
+    /* Node 3 is out of range: its link was dropped. */
+    const uint32_t asked[][2] = {{0, 1}, {1, 0}, {1, 3}};
+    for (int pair = 0; pair < 3; pair++) {
+        uint32_t first = asked[pair][0], second = asked[pair][1];
+        struct talwighest_found found = talwighest_has_edge(
+            3, starts, 4, columns, built.kept, weights, built.kept, first, second);
+        struct talwighest_weighed weighed = talwighest_edge_weight(
+            3, starts, 4, columns, built.kept, weights, built.kept, first, second);
+        printf("%u to %u: refusal %u and %u", first, second, found.refusal, weighed.refusal);
+        if (found.found && weighed.found) {
+            printf(", a link of %g\n", weighed.weight);
+        } else if (!found.found && !weighed.found) {
+            printf(", no link\n");
+        }
     }
     return 0;
 }

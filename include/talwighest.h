@@ -36,10 +36,11 @@
    REFUSALS. A call tests its input before it writes anything. If it returns 0 (TALWIGHEST_DONE), it has done its work.
    Any other number is a refusal and says which test failed: the call makes the tests of enum talwighest_refusal in the order
    of their numbers, and returns the number of the first test that fails. A refused call leaves every list as it was, and
-   returns counts of 0 and a score or norm of +0 (positive zero). The number is the result itself, or the field `refusal` of
-   the result. The comment above each call says which numbers it can refuse with.
+   returns counts of 0, a score, norm or weight of +0 (positive zero), and no link found. The number is the result itself, or
+   the field `refusal` of the result. The comment above each call says which numbers it can refuse with.
 
-   NODES OUT OF RANGE. A source or target is out of range if it is not below n. The calls do not refuse it:
+   NODES OUT OF RANGE. A node that a call is asked about, such as a source or target, is out of range if it is not below n.
+   The calls do not refuse it:
      - A solve from one source, or to one target, that is out of range leaves +0 in every element of `estimate` and
        `residual`. The counts are 0 and the norm is +0.
      - A solve with a list of sources or targets skips every entry that is out of range. The share of such an entry is lost.
@@ -49,6 +50,7 @@
        gives. They are +0 everywhere if the solve starts out of range.
      - talwighest_solve_bidirectional_* makes both solves. A solve that starts out of range leaves +0 in both of its lists.
      - talwighest_adaptive_solve_* makes neither solve. It fills all four lists with +0 and returns the score +0.
+     - talwighest_has_edge and talwighest_edge_weight find no link from or to a node out of range.
 
    In the repository, docs/ENTRIES.md explains each call with examples, and docs/RULES.md has the exact rules. include/check
    compares the names, types and order of the arguments below with the source of the library. */
@@ -60,10 +62,10 @@
 #include <stdint.h>
 
 /* CHANGELOG.md, in the repository, says what each version changed. */
-#define TALWIGHEST_VERSION "0.2.2"
+#define TALWIGHEST_VERSION "0.3.0"
 #define TALWIGHEST_VERSION_MAJOR 0
-#define TALWIGHEST_VERSION_MINOR 2
-#define TALWIGHEST_VERSION_PATCH 2
+#define TALWIGHEST_VERSION_MINOR 3
+#define TALWIGHEST_VERSION_PATCH 0
 
 #ifdef __cplusplus
 extern "C" {
@@ -117,6 +119,19 @@ struct talwighest_scored {
 struct talwighest_built {
     uint32_t refusal;        /* 0, or a number of enum talwighest_refusal */
     uint32_t kept;           /* how many links it kept */
+};
+
+/* What talwighest_has_edge returns. */
+struct talwighest_found {
+    uint32_t refusal;        /* 0, or a number of enum talwighest_refusal */
+    bool found;              /* whether there is a link. false if the call refuses */
+};
+
+/* What talwighest_edge_weight returns. */
+struct talwighest_weighed {
+    uint32_t refusal;        /* 0, or a number of enum talwighest_refusal */
+    bool found;              /* whether there is a link. false if the call refuses */
+    double weight;           /* the weight of the first such link in the row, or +0 if there is none */
 };
 
 /* ---- Square root and norm ---- */
@@ -183,6 +198,28 @@ uint32_t talwighest_row_sums(
     const uint32_t *columns, size_t columns_length,             /* m; read */
     const double *weights, size_t weights_length,               /* m; read */
     double *degrees, size_t degrees_length                      /* n; answer */
+);
+
+/* Says whether a link leads from node `from` to node `to`. A link of weight 0 counts like any other. The call tests all rows,
+   and then searches one. Refuses with 1 to 5. */
+struct talwighest_found talwighest_has_edge(
+    uint32_t n,
+    const uint32_t *starts, size_t starts_length,               /* n + 1; read */
+    const uint32_t *columns, size_t columns_length,             /* m; read */
+    const double *weights, size_t weights_length,               /* m; read */
+    uint32_t from,
+    uint32_t to
+);
+
+/* Says the same, and how much the link weighs: the first one, if the row of `from` has several links to `to`.
+   Refuses with 1 to 5. */
+struct talwighest_weighed talwighest_edge_weight(
+    uint32_t n,
+    const uint32_t *starts, size_t starts_length,               /* n + 1; read */
+    const uint32_t *columns, size_t columns_length,             /* m; read */
+    const double *weights, size_t weights_length,               /* m; read */
+    uint32_t from,
+    uint32_t to
 );
 
 /* ---- The forward solver ----

@@ -20,6 +20,17 @@ impl Links<'_> {
         rows.weights.truncate(built.kept as usize);
         Ok(rows.owned())
     }
+
+    /// Whether a kept link leads from one node to the other. It builds the rows first: who asks more than once should keep those
+    /// that `from_edges` gives.
+    pub fn has_edge(&self, from: u32, to: u32) -> Result<bool, Refusal> {
+        self.from_edges()?.rows().has_edge(from, to)
+    }
+
+    /// The weight of the first kept link from one node to the other, if there is one. It builds the rows first, like `has_edge`.
+    pub fn edge_weight(&self, from: u32, to: u32) -> Result<Option<f64>, Refusal> {
+        self.from_edges()?.rows().edge_weight(from, to)
+    }
 }
 
 impl Rows<'_> {
@@ -42,6 +53,18 @@ impl Rows<'_> {
     pub fn row_sums(&self) -> Result<Vec<f64>, Refusal> {
         let mut degrees = self.size().reals();
         Refusal::unless_done(entries::row_sums(*self, &mut degrees)).map(|()| degrees)
+    }
+
+    /// Whether a link leads from one node to the other.
+    pub fn has_edge(&self, from: u32, to: u32) -> Result<bool, Refusal> {
+        let answer = entries::has_edge(*self, from, to);
+        Refusal::unless_done(answer.refusal).map(|()| answer.found)
+    }
+
+    /// The weight of the first link from one node to the other, if there is one.
+    pub fn edge_weight(&self, from: u32, to: u32) -> Result<Option<f64>, Refusal> {
+        let answer = entries::edge_weight(*self, from, to);
+        Refusal::unless_done(answer.refusal).map(|()| answer.found.then_some(answer.weight))
     }
 }
 

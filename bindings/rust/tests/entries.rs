@@ -2,7 +2,7 @@
 mod chain;
 
 use chain::{backward, forward, settings, CHAIN, CHAIN_ROWS};
-use talwighest::entries::{self, Built, RowBuffers};
+use talwighest::entries::{self, Built, Found, RowBuffers, Weighed};
 use talwighest::{combine_with_forward, compute_residual_norm, extrapolated_solution, square_root};
 use talwighest::{Links, Matrix, OwnedRows};
 
@@ -38,6 +38,23 @@ fn from_edges_and_the_calls_on_its_rows() {
     let degrees = vec![2.5, 0.0, 1.0];
     assert_eq!(built.rows().row_sums(), Ok(degrees.clone()));
     assert_eq!(built.rows().from_matrix(), Ok(Matrix { reverse, degrees, reverse_degrees: vec![0.0, 3.0, 0.5] }));
+}
+
+#[test]
+fn has_edge_and_edge_weight() {
+    let links = Links { n: 3, from: &[0, 0, 0, 1], to: &[1, 2, 1, 3], weight: &[2.0, 0.0, 3.0, 4.0] };
+    let built = links.from_edges().unwrap();
+    let rows = built.rows();
+    let none = Weighed { refusal: 0, found: false, weight: 0.0 };
+    for (from, to, weight) in [(0, 1, Some(2.0)), (0, 2, Some(0.0)), (1, 0, None), (1, 3, None), (3, 0, None)] {
+        assert_eq!(links.has_edge(from, to), Ok(weight.is_some()));
+        assert_eq!(rows.has_edge(from, to), Ok(weight.is_some()));
+        assert_eq!(links.edge_weight(from, to), Ok(weight));
+        assert_eq!(rows.edge_weight(from, to), Ok(weight));
+        assert_eq!(entries::has_edge(rows, from, to), Found { refusal: 0, found: weight.is_some() });
+        let answer = weight.map_or(none, |weight| Weighed { found: true, weight, ..none });
+        assert_eq!(entries::edge_weight(rows, from, to), answer);
+    }
 }
 
 #[test]

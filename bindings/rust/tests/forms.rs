@@ -24,6 +24,11 @@ fn both_forms_agree() {
         let settings = Settings { epsilon: 1e-4, queue_threshold: 1e-5, max_pushes: 5_000, ..Settings::default() };
         let (source, target) = (0, nodes / 2);
         let (many, precision) = ([source, target, nodes], 1e-3);
+        assert_eq!(links.edge_weight(source, to[0]), Ok(Some(weight[0])));
+        for (from, to) in [(source, to[0]), (source, target), (target, source), (source, nodes), (nodes, source)] {
+            assert_eq!(links.has_edge(from, to), rows.has_edge(from, to));
+            assert_eq!(links.edge_weight(from, to), rows.edge_weight(from, to));
+        }
         assert!(links.solve_single_source(source, settings).unwrap().push_count > 0);
         assert_eq!(links.solve_single_source(source, settings), rows.solve_single_source(source, settings));
         assert_eq!(links.solve_multi_source(&many, settings), rows.solve_multi_source(&many, settings));

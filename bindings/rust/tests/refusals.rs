@@ -11,6 +11,8 @@ fn all_refuse(links: Links, rows: Rows, settings: Settings, refusal: Refusal) {
         assert_eq!(rows.from_matrix().err(), Some(refusal));
         assert_eq!(rows.transpose().err(), Some(refusal));
         assert_eq!(rows.row_sums().err(), Some(refusal));
+        assert_eq!((links.has_edge(0, 1), rows.has_edge(0, 1)), (Err(refusal), Err(refusal)));
+        assert_eq!((links.edge_weight(0, 1), rows.edge_weight(0, 1)), (Err(refusal), Err(refusal)));
     }
     macro_rules! of {
         ($graph:ident) => {
@@ -66,6 +68,7 @@ fn three_another_length() {
 fn four_unsound_rows() {
     for rows in [Rows { starts: &[0, 2, 1], ..ROWS }, Rows { columns: &[2], ..ROWS }, Rows { starts: &[1, 1, 1], ..ROWS }] {
         assert_eq!(rows.transpose().err(), Some(Refusal::UnsoundRows));
+        assert_eq!((rows.has_edge(0, 1), rows.edge_weight(0, 1)), (Err(Refusal::UnsoundRows), Err(Refusal::UnsoundRows)));
         assert_eq!(rows.solve_single_source(0, Settings::default()).err(), Some(Refusal::UnsoundRows));
     }
 }

@@ -1,5 +1,6 @@
 -- The laws that the functions' proofs share.
 pub mod Links
+pub mod KeptRows
 pub mod Slab
 pub mod Sums
 pub mod Growing
@@ -8,8 +9,10 @@ pub mod Sorting
 pub mod Inside
 pub mod Compress
 pub mod Read
+pub mod Handed
 pub mod Given
 pub mod Back
+pub mod Whole
 pub mod Turn
 pub mod Walk
 pub mod Reverse

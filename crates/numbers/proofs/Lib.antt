@@ -3,5 +3,6 @@ pub mod Tests
 pub mod Choice
 pub mod Order
 pub mod Tables
+pub mod NoneOf
 pub mod Over
 pub mod Zeros

@@ -5,9 +5,13 @@ use mathlib.Core.List.{List, _∷_, map}
 use Prim.Native.Nat.{ℕ, zero, suc, _<_, suc-le-suc, zero-le}
 use native.Mathlib.Nat.{not-suc-le-zero, le-of-suc-le-suc}
 use native.Mathlib.Decide.{ℕ-discrete}
-use lib.ListN.{length, getD, set, replicate, length-set}
+use borrow.Author.Tests.{ltb-true, ltb-false}
+use lib.Dec.{ltb}
+use lib.ListN.{length, getD, set, replicate, length-set, List·getD-eq-default}
 use lib.Seq.{ext-getD, getD-set-same, getD-set-other}
+use Rattle.numbers.specs.Choice.{if_then_else_}
 use Rattle.numbers.specs.Tables.{tabulate}
+use Rattle.numbers.proofs.Choice.{decided}
 
 module _ {A : Type 0} where
   -- a table has n entries
@@ -22,6 +26,12 @@ module _ {A : Type 0} where
   getD-tabulate zero f v d h = absurd (not-suc-le-zero h)
   getD-tabulate (suc n) f zero d h = refl
   getD-tabulate (suc n) f (suc v) d h = getD-tabulate n (λ k. f (suc k)) v d (le-of-suc-le-suc h)
+
+  -- entry v, wherever v is
+  pub table-at : (n : ℕ) (f : ℕ → A) (v : ℕ) (d : A) → getD (tabulate n f) v d ≡ (if ltb v n then f v else d)
+  table-at n f v d =
+      decided (λ x. getD (tabulate n f) v d ≡ x) (ltb v n) (λ e. getD-tabulate n f v d (ltb-true v n e))
+      (λ e. List·getD-eq-default (tabulate n f) d (rw length-tabulate (ltb-false v n e)))
 
   -- tables that agree below n
   pub tabulate-ext : (n : ℕ) (f g : ℕ → A) → ((v : ℕ) → v < n → f v ≡ g v) → tabulate n f ≡ tabulate n g

@@ -1,4 +1,4 @@
--- The rows that the buffers stand for: their lengths, nodes and degrees. Assumes nothing.
+-- The rows that the buffers stand for: their lengths and degrees. Assumes nothing.
 use Prim.Native.Nat.{ℕ, suc, _+_, _≤_, _<_}
 use native.Mathlib.Numerals.{add-one}
 use native.Mathlib.Omega.{arith}
@@ -6,11 +6,10 @@ use mathlib.Core.Bool.{Bool, true, false}
 use mathlib.Core.List.{List}
 use mathlib.Core.Path.{_≡_, refl, sym, ap, _∙_}
 use lib.ListN.{length, getD}
-use lib.Seq.{slice, length-slice, getD-drop, getD-take}
 use lib.Ieee.{Float}
-use Rattle.graph.specs.Rows.{degree, entriesOf, rowIn}
-use Rattle.graph.specs.Store.{chosen, Rowed}
-use Rattle.graph.proofs.Read.{start-le, start-inside, row-degree}
+use Rattle.graph.specs.Rows.{degree, rowIn}
+use Rattle.graph.specs.Store.{chosen}
+use Rattle.graph.proofs.Read.{start-inside, row-degree}
 use Rattle.rules.specs.Ways.{Way, wayOf, degreeOf}
 use Rattle.rules.specs.Rules.{at}
 use Rattle.pushes.specs.Buffers.{Lists, columnsBy, weightsBy, Rows}
@@ -21,30 +20,6 @@ pub chosen-long : {A : Type 0} (backward : Bool) (x y : List A) → length y ≡
 unfolding chosen
 chosen-long true x y e = e
 chosen-long false x y e = refl
-
-module _ {n : ℕ} {starts columns : List ℕ} {weights : List Float} (z : Rowed n starts columns weights) (v : ℕ) (h : v < n) where
-  -- the parts of a row are as long
-  pub row-paired : {row : List ℕ} {part : List Float} → row ≡ slice (getD starts v 0) (getD starts (v + 1) 0) columns
-      → part ≡ slice (getD starts v 0) (getD starts (v + 1) 0) weights → length part ≡ length row
-  row-paired e f =
-      let k : getD starts (v + 1) 0 ≤ length columns = rw add-one (start-inside z (suc v) h) in
-      let l : getD starts (v + 1) 0 ≤ length weights = rw (z .paired) k in
-      rw (e, f, length-slice _ _ columns k, length-slice _ _ weights l)
-
-  -- they make the row
-  pub row-made : {row : List ℕ} {part : List Float} → row ≡ slice (getD starts v 0) (getD starts (v + 1) 0) columns
-      → part ≡ slice (getD starts v 0) (getD starts (v + 1) 0) weights → rowIn (getD starts v 0) (getD starts (suc v) 0) columns weights ≡ entriesOf row part
-  unfolding rowIn
-  row-made e f = rw (e, f, add-one)
-
-  -- its nodes are nodes
-  pub row-inside : {row : List ℕ} → row ≡ slice (getD starts v 0) (getD starts (v + 1) 0) columns → (k : ℕ) → k < length row → getD row k 0 < n
-  row-inside e k l =
-      let s = getD starts v 0 in
-      let t = getD starts (v + 1) 0 in
-      let i : t ≤ getD starts n 0 = rw add-one (start-le z (suc v) h) in
-      let j : s + k < t = omega (arith, rw (e, length-slice s t columns (rw add-one (start-inside z (suc v) h))) at l) in
-      rw (e, getD-drop, getD-take) (z .inside (s + k) (omega arith))
 
 module _ {n : ℕ} {backward : Bool} {l : Lists} (r : Rows n backward l) where
   module _ (v : ℕ) (h : v < n) (s e : ℕ) (p : s ≡ getD (l .starts) v 0) (q : e ≡ getD (l .starts) (v + 1) 0) where

@@ -9,11 +9,12 @@ use lib.ListN.{length, getD}
 use lib.Ieee.{Float}
 use lib.Dec.{leb, ltb}
 use borrow.Author.Tests.{eqb-true, ltb-false, leb-false, not-false}
+use Rattle.numbers.proofs.NoneOf.{none-at}
 use Rattle.numbers.proofs.Tests.{neither}
-use Rattle.numbers.specs.Tables.{any}
 use Rattle.numbers.specs.Numbers.{+0, one}
+use Rattle.numbers.specs.Tables.{any}
 use Rattle.refusals.specs.declared.Settings.{Settings}
-use Rattle.refusals.specs.Refusals.{_or_, _when_, within, falls, lengthsDiffer, refuseNodes, refuseLinks, refuseListed, refuseLengths, refuseSizes, refuseRows, refuseAlpha, refuseSettings, linkTests, rowTests}
+use Rattle.refusals.specs.Refusals.{_or_, _when_, within, wrong, falls, lengthsDiffer, refuseNodes, refuseLinks, refuseListed, refuseLengths, refuseSizes, refuseRows, refuseWeights, refuseAlpha, refuseSettings, linkTests, rowTests}
 use Rattle.refusals.specs.Calls.{Outcome, outcomeOf, byRefusal}
 
 -- ---- the first number
@@ -89,13 +90,6 @@ pub alpha-within : (s : Settings) → refuseSettings s ≡ 0 → within +0 one (
 unfolding refuseSettings refuseAlpha
 alpha-within s h = not-false _ (when-zero 5 _ (or-zero _ _ h .0))
 
--- no element is of the kind
-none : {A : Type 0} (p : A → Bool) (d : A) (xs : List A) → any p xs ≡ false → (i : ℕ) → i < length xs → p (getD xs i d) ≡ false
-unfolding any
-none p d [] h i b = absurd (not-suc-le-zero {n = i} b)
-none p d (x ∷ xs) h zero b = neither (p x) _ h .0
-none p d (x ∷ xs) h (suc i) b = none p d xs (neither (p x) _ h .1) i (le-of-suc-le-suc b)
-
 -- no number is below the one before
 steady : (s : List ℕ) → falls s ≡ false → (v : ℕ) → suc v < length s → getD s v 0 ≤ getD s (suc v) 0
 unfolding falls
@@ -122,12 +116,17 @@ fine n starts columns h =
       begins = eqb-true _ _ (not-false _ (d .0));
       rises = steady starts (d .1);
       ends = eqb-true _ _ (not-false _ (b .1));
-      inside = λ i k. leb-false _ _ (none (λ v. leb n v) 0 columns (a .1) i k);
+      inside = λ i k. leb-false _ _ (none-at (λ v. leb n v) 0 columns (a .1) i k);
     }
 
 -- a call with a list of links
 pub links-passed : (n m s : ℕ) (ps : List (ℕ × ℕ)) (ws : List Float) {r : ℕ} → r ≡ linkTests n m s ps ws → r ≡ 0 → Sized n m s ps
 links-passed n m s ps ws e h = sized n m s ps (or-zero _ _ (sym e ∙ h) .0)
+
+-- none of its weights is wrong
+pub links-sound : (n m s : ℕ) (ps : List (ℕ × ℕ)) (ws : List Float) {r : ℕ} → r ≡ linkTests n m s ps ws → r ≡ 0 → any wrong ws ≡ false
+unfolding refuseWeights
+links-sound n m s ps ws e h = when-zero 4 _ (or-zero _ _ (sym e ∙ h) .1)
 
 -- a call with rows
 pub rows-passed : (n s : ℕ) (ps : List (ℕ × ℕ)) (starts columns : List ℕ) (ws : List Float) {r : ℕ}

@@ -10,7 +10,6 @@ pub mod Due
 pub mod Ends
 pub mod Starts
 pub mod Local
-pub mod KeptRows
 pub mod Transposed
 pub mod Paths
 pub mod Unreached

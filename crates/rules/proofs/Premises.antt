@@ -13,7 +13,7 @@ use Rattle.graph.specs.Rows.{Link, Entry, link, rowOf}
 use Rattle.rules.specs.Ways.{pushForward, pushBackward, overLinks}
 use Rattle.rules.specs.Rules.{Watch, solve}
 use Rattle.rules.specs.Reach.{Leads, stay, step, Connected, keptLinks, SameConnected, Alike}
-use Rattle.rules.proofs.KeptRows.{row-kept}
+use Rattle.graph.proofs.KeptRows.{row-kept}
 use Rattle.rules.proofs.Unreached.{alike-links}
 
 -- forward, that the links are the same is all that is asked

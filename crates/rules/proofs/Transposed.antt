@@ -9,10 +9,10 @@ use mathlib.Core.List.{List, [], _∷_, _++_, List·Memᴰ, List·Memᴰ·head, 
 use borrow.Author.Tests.{eqb-true}
 use lib.Dec.{ltb, eqb}
 use Rattle.numbers.specs.Choice.{if_then_else_}
+use Rattle.numbers.proofs.Tables.{table-at}
 use Rattle.numbers.proofs.Choice.{decided}
 use Rattle.graph.specs.Rows.{Entry, link, entry, into, intoFrom, transposed}
 use Rattle.rules.specs.Ways.{rowAt}
-use Rattle.rules.proofs.Lists.{table-at}
 
 -- an entry of a row that leads to t
 pub record To (t : ℕ) (row : List Entry) : Type 0 where

@@ -15,7 +15,7 @@ use Rattle.rules.specs.Rules.{State, Watch, solve}
 use Rattle.rules.specs.Answers.{visitedCount}
 use Rattle.rules.specs.Reach.{Connected, keptLinks, SameConnected, Alike, Untouched}
 use Rattle.rules.proofs.Local.{Agree, solve-same, solve-off}
-use Rattle.rules.proofs.KeptRows.{rows-at}
+use Rattle.graph.proofs.KeptRows.{rows-at}
 use Rattle.rules.proofs.Transposed.{To, transposed-same}
 use Rattle.rules.proofs.Paths.{begun-connected, connected-before, connected-closed}
 

@@ -1,7 +1,8 @@
 -- `pushes::hand_out` meets its contract: the rest goes through the row (`hand-through`), or back (`hand-back`). Assumes nothing.
 use native.Mathlib.Omega.{arith}
 use mathlib.Core.Path.{_∙_}
-use Rattle.pushes.proofs.Standing.{columns-fit, weights-fit, row-paired, row-made, row-inside, weighs}
+use Rattle.graph.proofs.Handed.{row-paired, row-made, row-inside}
+use Rattle.pushes.proofs.Standing.{columns-fit, weights-fit, weighs}
 use Rattle.pushes.proofs.Tested.{hand-through, hand-back}
 use borrow.Author.Needs.{needs}
 use Rattle.pushes.proofs.hand_out.Statement.{statement}

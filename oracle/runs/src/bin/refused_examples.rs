@@ -8,7 +8,7 @@ use runs::calls::make::{make, Read};
 use runs::calls::outcome::Returned;
 use runs::calls::shape::Kind;
 use runs::calls::theirs::{Run, Theirs};
-use runs::entries::{Built, Scored, Settings, Solved};
+use runs::entries::{Built, Found, Scored, Settings, Solved, Weighed};
 use std::panic::{catch_unwind, set_hook};
 
 const FORWARD: Solver = Solver::Forward;
@@ -129,6 +129,8 @@ fn refused(call: &Call) -> u32 {
     match make(call, &read, &mut lent) {
         Returned::Number(refusal)
         | Returned::Built(Built { refusal, .. })
+        | Returned::Found(Found { refusal, .. })
+        | Returned::Weighed(Weighed { refusal, .. })
         | Returned::Solved(Solved { refusal, .. })
         | Returned::Scored(Scored { refusal, .. }) => refusal,
     }

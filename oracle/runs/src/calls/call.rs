@@ -19,7 +19,8 @@ pub struct Call {
     pub lengths: Vec<usize>,
 }
 
-/// What a solve is given beside its graph. An entry makes use of what it takes; one that builds rows, of nothing.
+/// What a solve is given beside its graph. An entry makes use of what it takes; one that builds rows, of nothing, and one that
+/// searches them, of the source and the target, between which it asks for a link.
 #[derive(Clone)]
 pub struct Wish {
     pub source: u32,
@@ -121,6 +122,9 @@ impl Debug for Call {
         write!(out, ", {} = {}", weights.name, abridged(&self.weights))?;
         if self.entry.task().is_some() {
             write!(out, ", {:?}", self.wish)?;
+        }
+        if self.entry.searches() {
+            write!(out, ", from node {} to node {}", self.wish.source, self.wish.target)?;
         }
         for ((shape, &length), stated) in self.entry.written().iter().zip(&self.lengths).zip(self.stated()) {
             if length != stated {

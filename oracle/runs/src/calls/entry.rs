@@ -7,6 +7,8 @@ pub enum Entry {
     FromMatrix,
     Transpose,
     RowSums,
+    HasEdge,
+    EdgeWeight,
     Solve(Question, Form),
 }
 
@@ -46,6 +48,14 @@ pub enum Form {
 }
 
 pub const BUILDERS: [Entry; 4] = [Entry::FromEdges, Entry::FromMatrix, Entry::Transpose, Entry::RowSums];
+
+/// Those that search rows for a link, and write nothing.
+pub const SEARCHES: [Entry; 2] = [Entry::HasEdge, Entry::EdgeWeight];
+
+/// All entries of the graph store.
+pub fn store() -> impl Iterator<Item = Entry> {
+    BUILDERS.into_iter().chain(SEARCHES)
+}
 
 impl Solver {
     pub fn name(self) -> &'static str {
@@ -102,6 +112,8 @@ impl Entry {
             Entry::FromMatrix => "from_matrix".to_string(),
             Entry::Transpose => "transpose".to_string(),
             Entry::RowSums => "row_sums".to_string(),
+            Entry::HasEdge => "has_edge".to_string(),
+            Entry::EdgeWeight => "edge_weight".to_string(),
             Entry::Solve(question, Form::Links) => format!("{}_links", question.name()),
             Entry::Solve(question, Form::Rows) => format!("{}_rows", question.name()),
         }
@@ -109,6 +121,11 @@ impl Entry {
 
     pub fn takes_rows(self) -> bool {
         !matches!(self, Entry::FromEdges | Entry::Solve(_, Form::Links))
+    }
+
+    /// Whether it asks for a link between two nodes.
+    pub fn searches(self) -> bool {
+        SEARCHES.contains(&self)
     }
 
     /// What it is asked, where it is a solve.
@@ -147,6 +164,7 @@ impl Entry {
             }
             Entry::Transpose => [&shape::REVERSE_ROWS[..], &shape::POSITIONS].concat(),
             Entry::RowSums => shape::DEGREES.to_vec(),
+            Entry::HasEdge | Entry::EdgeWeight => Vec::new(),
             Entry::Solve(question, form) => solve_written(question, form),
         }
     }

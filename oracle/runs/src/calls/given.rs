@@ -1,6 +1,6 @@
 //! The graph of a call, as the Rust takes it.
 use super::call::Call;
-use repaired::graph::{CompressedSparseRow, PushGraph};
+use repaired::graph::{AdjacencyList, CompressedSparseRow, PushGraph};
 
 /// The Rust's graph of a call on links or on rows.
 pub fn graph(call: &Call) -> PushGraph {
@@ -12,10 +12,23 @@ pub fn graph(call: &Call) -> PushGraph {
 }
 
 pub fn graph_of_links(call: &Call) -> PushGraph {
+    PushGraph::from_edges(call.nodes as usize, &edges(call).collect::<Vec<_>>())
+}
+
+/// The Rust's lists of neighbours of a call on links, each of which is added in turn, or on rows.
+pub fn neighbours(call: &Call) -> AdjacencyList {
+    if call.entry.takes_rows() {
+        return AdjacencyList::from_csr(&matrix(call));
+    }
+    let mut lists = AdjacencyList::new(call.nodes as usize);
+    edges(call).for_each(|(from, to, weight)| lists.add_edge(from, to, weight));
+    lists
+}
+
+/// The links of a call on links.
+fn edges(call: &Call) -> impl Iterator<Item = (usize, usize, f64)> + '_ {
     let ends = call.first.iter().zip(&call.second);
-    let edges: Vec<(usize, usize, f64)> =
-        ends.zip(&call.weights).map(|((&from, &to), &weight)| (from as usize, to as usize, weight)).collect();
-    PushGraph::from_edges(call.nodes as usize, &edges)
+    ends.zip(&call.weights).map(|((&from, &to), &weight)| (from as usize, to as usize, weight))
 }
 
 /// The rows of a call on rows.

@@ -2,7 +2,7 @@
 use super::call::Call;
 use super::entry::{Entry, Form, Question, Solver, Task};
 use super::lending::{Lending, Slice};
-use super::outcome::Returned::{self, Built, Number, Scored, Solved};
+use super::outcome::Returned::{self, Built, Found, Number, Scored, Solved, Weighed};
 use crate::entries::{self, Links, Rows};
 
 /// The lists that a call is lent to read.
@@ -22,6 +22,8 @@ pub fn make<'a>(call: &Call, read: &Read, written: &mut dyn Iterator<Item = Slic
         Entry::FromMatrix => Number(entries::from_matrix(rows, lent.rows(), lent.reals(), lent.reals(), lent.wholes())),
         Entry::Transpose => Number(entries::transpose(rows, lent.rows(), lent.wholes())),
         Entry::RowSums => Number(entries::row_sums(rows, lent.reals())),
+        Entry::HasEdge => Found(entries::has_edge(rows, call.wish.source, call.wish.target)),
+        Entry::EdgeWeight => Weighed(entries::edge_weight(rows, call.wish.source, call.wish.target)),
         Entry::Solve(question, Form::Links) => of_links(call, question, links, read.many, lent),
         Entry::Solve(question, Form::Rows) => of_rows(call, question, rows, read.many, lent),
     }

@@ -1,12 +1,25 @@
-//! What the repaired Rust makes of a solve that is not refused.
+//! What the repaired Rust makes of a solve, or of a search for a link, that is not refused.
 use super::approach::{self, Approach};
 use super::call::Wish;
-use super::entry::{Question, Solver, Task};
+use super::entry::{Entry, Question, Solver, Task};
 use super::outcome::{Contents, Outcome, Returned};
-use crate::entries::{Scored, Solved};
-use repaired::graph::PushGraph;
+use crate::entries::{Found, Scored, Solved, Weighed};
+use repaired::graph::{AdjacencyList, Graph, PushGraph};
 use repaired::solver::backward_push::{BackwardPushResult, BackwardPushSolver, BidirectionalPushSolver};
 use repaired::solver::forward_push::{ForwardPushResult, ForwardPushSolver};
+
+/// What a search of the Rust's lists of neighbours returns.
+pub fn searched(lists: &AdjacencyList, entry: Entry, from: u32, to: u32) -> Returned {
+    let (from, to) = (from as usize, to as usize);
+    match entry {
+        Entry::HasEdge => Returned::Found(Found { refusal: 0, found: lists.has_edge(from, to) }),
+        Entry::EdgeWeight => {
+            let weight = lists.edge_weight(from, to);
+            Returned::Weighed(Weighed { refusal: 0, found: weight.is_some(), weight: weight.unwrap_or(0.0) })
+        }
+        _ => unreachable!("a search"),
+    }
+}
 
 /// The Rust's solver of a graph.
 pub enum Theirs {

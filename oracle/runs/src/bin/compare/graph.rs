@@ -1,15 +1,17 @@
 //! `from_edges`, `from_matrix`, `transpose` and `row_sums` against the Rust's `PushGraph` and `CompressedSparseRow`,
-//! and against the refusals of docs/RULES.md. Each call is compared whole: what it returns, and every word of every buffer.
+//! and against the refusals of docs/RULES.md. Each call is compared whole: what it returns, and every word of every buffer. The
+//! refusals of `has_edge` and `edge_weight` are here too; `edges` has their answers.
 mod expected;
 
 use crate::calls::made::{self, Made};
 use crate::calls::smaller::smaller;
 use crate::calls::sound::{MOST_LINKS, MOST_NODES};
+use crate::calls::wishes::each_link;
 use crate::calls::{damaged, empty, limits, lists, sharing};
 use crate::Asked;
 use repaired::graph::PushGraph;
 use runs::calls::call::Call;
-use runs::calls::entry::{Entry, Form, BUILDERS};
+use runs::calls::entry::{store, Entry, Form};
 use runs::calls::given::{graph_of_links, matrix};
 use runs::calls::outcome::Outcome;
 use runs::calls::refusal::{misread, refusal};
@@ -36,17 +38,9 @@ fn small_lists(asked: &Asked, comparison: &mut Comparison) {
 }
 
 fn random_lists(asked: &Asked, comparison: &mut Comparison, random: &mut Random) {
-    let classes = [
-        (1, 8, asked.size(2_000, 50_000)),
-        (8, 40, asked.size(20_000, 500_000)),
-        (64, 400, asked.size(3_000, 60_000)),
-        (1_000, 10_000, asked.size(100, 3_000)),
-        (MOST_NODES, 100_000, asked.size(10, 300)),
-        (MOST_NODES, MOST_LINKS, asked.size(3, 60)),
-    ];
-    for (nodes, links, count) in classes.into_iter().filter(|class| asked.draws(class.0)) {
+    for (nodes, links, gate, full) in lists::SIZES.into_iter().filter(|size| asked.draws(size.0)) {
         // One in three is of exactly the size.
-        let inputs = (0..count).map(|number| lists::random(random, nodes, links, number % 3 == 0));
+        let inputs = (0..asked.size(gate, full)).map(|number| lists::random(random, nodes, links, number % 3 == 0));
         let name = format!("graph, random lists of up to {nodes} nodes and {links} links");
         comparison.kind(&name, inputs, of_links, smaller);
     }
@@ -72,11 +66,11 @@ fn random_rows(asked: &Asked, comparison: &mut Comparison, random: &mut Random) 
 }
 
 fn refusals(asked: &Asked, comparison: &mut Comparison, random: &mut Random) {
-    for entry in BUILDERS {
+    for entry in store() {
         damaged::compare_each(entry, comparison, of_call);
         empty::compare(entry, comparison, of_call);
         let mut kind = |name: &str, inputs: &mut dyn Iterator<Item = Call>| {
-            comparison.kind(&format!("{}, {name}", entry.name()), inputs, of_call, smaller);
+            comparison.kind(&format!("{}, {name}", entry.name()), inputs.flat_map(each_link), of_call, smaller);
         };
         kind("limits of weight, in each place", &mut limits::weights(entry).into_iter());
         kind("each length, and each two", &mut limits::lengths(entry).into_iter());
@@ -100,10 +94,12 @@ fn sharing(asked: &Asked, comparison: &mut Comparison, random: &mut Random) {
 
 /// These come last: what fails elsewhere too is found there at a smaller input.
 fn largest(comparison: &mut Comparison) {
-    for entry in BUILDERS {
-        comparison.kind(&format!("{}, limits of size", entry.name()), limits::sizes(entry), of_call, smaller);
+    for entry in store() {
+        let inputs = limits::sizes(entry).flat_map(each_link);
+        comparison.kind(&format!("{}, limits of size", entry.name()), inputs, of_call, smaller);
     }
-    comparison.kind("graph, edges done by hand", limits::by_hand(&BUILDERS).into_iter(), of_edge, |_| Vec::new());
+    let by_hand = limits::by_hand(&store().collect::<Vec<_>>());
+    comparison.kind("graph, edges done by hand", by_hand.into_iter(), of_edge, |_| Vec::new());
 }
 
 /// A call of `from_edges`, and the three others on the rows that the Rust makes of it.
@@ -138,8 +134,8 @@ fn of_call(call: &Call) -> Option<String> {
 
 /// Each entry that takes what the call is given, in lists by themselves and in lists that share memory.
 fn of_shared(call: &Call) -> Option<String> {
-    let alike = |entry: &&Entry| entry.takes_rows() == call.entry.takes_rows();
-    BUILDERS.iter().filter(alike).find_map(|&entry| {
+    let alike = |entry: &Entry| entry.takes_rows() == call.entry.takes_rows();
+    store().filter(alike).find_map(|entry| {
         let call = Call { entry, ..call.clone() }.with_stated_lengths();
         let outcome = expected::outcome(&call);
         Made::of(&call).difference(&outcome).or_else(|| Made::sharing(&call).difference(&outcome))

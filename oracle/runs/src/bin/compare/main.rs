@@ -4,15 +4,17 @@
 //!
 //! Without `full` it runs the share that the gate runs. Where parts are named it runs these: `store` is the square
 //! root, the norm, the graph store and the calls on vectors alone, `recorded` what `record solver` wrote of the Rust,
-//! which itself is not called there, `jobs` the job program as a process. `planted` puts one wrong digit into some of the
-//! proved library's answers, of the square root, of each call of the solvers, of each that is recorded and of the job
-//! program, to show that a difference is found: the program must then fail, and it does so only where each is found.
+//! which itself is not called there, `jobs` the job program as a process. `planted` puts one wrong digit, or a wrong no, into
+//! some of the proved library's answers, of the square root, of each search for a link, of each call of the solvers, of each
+//! that is recorded and of the job program, to show that a difference is found: the program must then fail, and it does so
+//! only where each is found.
 //! With `for` it begins anew with the next seed, part by part, until so many minutes are over.
 //!
 //! `behind` puts every list that is lent right before memory that nothing may touch, and `before` right behind such memory, so
 //! that a word read or written outside ends the program. `short` draws a hundredth of the gate's inputs, and no large ones;
 //! `quarter` is the gate's share under an emulator. `overrun NAME` does what must end it: see `overrun`.
 mod calls;
+mod edges;
 mod graph;
 mod jobs;
 mod norm;
@@ -141,6 +143,7 @@ fn compare(asked: &Asked, part: &str, comparison: &mut Comparison, random: &mut 
             square_root::compare(asked, comparison, random);
             norm::compare(asked, comparison, random);
             graph::compare(asked, comparison, random);
+            edges::compare(asked, comparison, random);
             for entry in ENTRIES {
                 vectors::compare(asked, entry, comparison, random);
             }
@@ -159,6 +162,7 @@ fn planted(asked: &Asked, random: &mut Random) {
     let mut comparison = Comparison::of_planted();
     if asked.asks_for("store") {
         square_root::planted(&mut comparison, random);
+        edges::planted(&mut comparison);
     }
     for solver in SOLVERS.into_iter().filter(|solver| asked.asks_for(solver.name())) {
         solves::planted(solver, &mut comparison, random);

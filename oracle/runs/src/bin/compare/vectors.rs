@@ -115,8 +115,8 @@ fn reading(case: &Case, read: &[Part<f64>], expected: &Outcome, planted: bool) -
         Outcome::Refused(number) => case.entry.refused(*number),
         Outcome::Done { returned, .. } => *returned,
     };
-    if !returned.same(right) {
-        return Some(format!("{name} returns {returned:?}, where {right:?} is right"));
+    if let Some(unlike) = returned.unlike(right, name) {
+        return Some(unlike);
     }
     let mut buffers = written.iter().enumerate();
     let found = buffers.find_map(|(place, buffer)| buffer.difference(expected, place));

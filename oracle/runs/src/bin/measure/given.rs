@@ -103,6 +103,7 @@ impl Given {
             Entry::FromMatrix => Done::listed(self.from_rows()),
             Entry::Transpose => Done::listed(black_box(self.matrix()).transpose()),
             Entry::RowSums => Done::listed(black_box(self.matrix()).row_sums()),
+            Entry::HasEdge | Entry::EdgeWeight => unreachable!("`edges` has the work of a search"),
             Entry::Solve(question, form) => {
                 let graph = if form == Form::Links { self.from_links() } else { self.from_rows() };
                 Theirs::new(question.solver, graph, wish).solve(wish, question.task)

@@ -1,13 +1,15 @@
 //! Measures the proved library beside the Rust, in one run, and prints tables in Markdown. A ratio above 1 says that the
 //! proved library takes longer.
 //!
-//! measure [calls | job | growth | names | once NAME [ours | theirs | neither] | stores NAME (default | zero) PUSHES]
+//! measure [calls | edges | job | growth | names | once NAME [ours | theirs | neither] | stores NAME (default | zero) PUSHES]
 //!
 //! Without a word it measures everything: each call by itself, the job program, and growth with nodes and with links,
-//! which draws docs/growth-nodes.svg and docs/growth-links.svg. With `once` both sides work once, untimed, or one of them,
-//! or neither, for a tool that counts instructions: NAME is one of those that `names` prints. `once job` prints a job at its
-//! limits, for `job` and `rust_job` to read. `stores` prints where the queue's two buffers lie, and solves with default
-//! settings or with thresholds of zero, for a tool that counts the stores into them.
+//! which draws docs/growth-nodes.svg and docs/growth-links.svg. `edges` is the part of `calls` that searches rows for a link.
+//! With `once` both sides work once, untimed, or one of them, or neither, for a tool that counts instructions: NAME is one
+//! of those that `names` prints. `once job` prints a job at its limits, for `job` and `rust_job` to read. `stores` prints
+//! where the queue's two buffers lie, and solves with default settings or with thresholds of zero, for a tool that counts
+//! the stores into them.
+mod edges;
 mod given;
 mod graph;
 mod growth;
@@ -24,7 +26,7 @@ mod work;
 
 use given::Given;
 use runs::calls::call::Wish;
-use runs::calls::entry::{Entry, Question, Solver, BUILDERS};
+use runs::calls::entry::{store, Entry, Question, Solver, SEARCHES};
 use runs::entries::Settings;
 use std::env;
 use std::hint::black_box;
@@ -40,6 +42,7 @@ fn main() {
             growth::measure();
         }),
         ["calls"] => machine::described(calls),
+        ["edges"] => machine::described(edges::measure),
         ["job"] => machine::described(job::measure),
         ["growth"] => machine::described(growth::measure),
         ["names"] => names().iter().for_each(|name| println!("{name}")),
@@ -49,7 +52,7 @@ fn main() {
         ["stores", name, "default", pushes] => stores(name, Settings::DEFAULT, pushes),
         ["stores", name, "zero", pushes] => stores(name, solves::all_of(0), pushes),
         _ => panic!(
-            "measure [calls | job | growth | names | once NAME [ours | theirs | neither] \
+            "measure [calls | edges | job | growth | names | once NAME [ours | theirs | neither] \
              | stores NAME (default | zero) PUSHES]"
         ),
     }
@@ -59,11 +62,12 @@ fn calls() {
     numbers::measure();
     let given = [(1_000, 10_000), (65_536, 262_144), (65_536, 1_048_576)].map(|(nodes, links)| Given::new(nodes, links));
     graph::measure(&given);
+    edges::measure();
     solves::measure(&given);
 }
 
 fn entries() -> impl Iterator<Item = Entry> {
-    BUILDERS.into_iter().chain(solves::SOLVERS.into_iter().flat_map(Solver::entries))
+    store().chain(solves::SOLVERS.into_iter().flat_map(Solver::entries))
 }
 
 fn names() -> Vec<String> {
@@ -72,10 +76,13 @@ fn names() -> Vec<String> {
 }
 
 /// A call on 65,536 numbers, or on 65,536 nodes and 262,144 links, with at most 100,000 pushes. By the default settings a
-/// backward solve is over after few: it is asked for all of them.
+/// backward solve is over after few: it is asked for all of them. A search goes through a row of 65,536 links.
 fn once(name: &str, side: &str) {
     if numbers::NAMES.contains(&name) {
         return numbers::work(name, 65_536).once(side);
+    }
+    if let Some(entry) = SEARCHES.into_iter().find(|entry| entry.name() == name) {
+        return edges::Row::new(65_536).search(entry, 1).once(side);
     }
     let mut given = Given::new(65_536, 262_144);
     if name == graph::WHOLE {

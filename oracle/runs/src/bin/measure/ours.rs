@@ -94,6 +94,8 @@ impl From<Returned> for Done {
         let (refusal, pushes, number) = match returned {
             Returned::Number(refusal) => (refusal, 0, 0.0),
             Returned::Built(built) => (built.refusal, 0, 0.0),
+            Returned::Found(found) => (found.refusal, 0, f64::from(found.found)),
+            Returned::Weighed(weighed) => (weighed.refusal, 0, weighed.weight),
             Returned::Solved(solved) => (solved.refusal, solved.push_count as usize, solved.residual_norm),
             Returned::Scored(scored) => (scored.refusal, 0, scored.score),
         };

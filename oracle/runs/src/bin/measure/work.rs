@@ -5,6 +5,9 @@ use crate::table;
 use crate::theirs::Done;
 use runs::timing::{interleaved, Timed};
 
+/// What one side does.
+pub type Side<'a> = Box<dyn FnMut() -> Done + 'a>;
+
 pub struct Work<'a> {
     /// The first cells of its line in a table.
     pub labels: Vec<String>,
@@ -12,18 +15,23 @@ pub struct Work<'a> {
     pub units: usize,
     /// The bytes that the proved library is lent to write.
     pub lent: usize,
-    pub ours: Box<dyn FnMut() -> Done + 'a>,
-    pub theirs: Box<dyn FnMut() -> Done + 'a>,
+    pub ours: Side<'a>,
+    pub theirs: Side<'a>,
 }
 
 /// The columns of a table of works, behind those that are the table's own.
 pub const COLUMNS: [&str; 6] = ["rounds", "proved library", "Rust", "ratio", "lent (bytes)", "Rust's peak heap (bytes)"];
 
 impl Work<'_> {
-    /// Sees that both sides come to the same, and prints its line of a table.
-    pub fn print(mut self, rounds: usize) -> Timed {
+    /// Sees that both sides come to the same.
+    pub fn check(&mut self) {
         let (ours, theirs) = ((self.ours)(), (self.theirs)());
         assert!(ours.agrees(&theirs), "{}: {ours:?} against {theirs:?}", self.labels[0]);
+    }
+
+    /// Checks it, and prints its line of a table.
+    pub fn print(mut self, rounds: usize) -> Timed {
+        self.check();
         let timed = interleaved(rounds, self.units, || keep((self.ours)()), || keep((self.theirs)()));
         let mut cells = self.labels;
         cells.push(table::grouped(rounds));

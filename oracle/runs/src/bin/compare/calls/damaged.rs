@@ -4,7 +4,7 @@ use super::smaller::smaller;
 use super::sound::{
     buffers, sound, with_length, with_links, with_nodes, MOST_LINKS, MOST_NODES, MOST_OF_MANY, MOST_PUSHES,
 };
-use super::wishes::{records, SettingsOf};
+use super::wishes::{each_link, records, SettingsOf};
 use runs::calls::call::Call;
 use runs::calls::entry::{Entry, Task};
 use runs::calls::refusal::applies;
@@ -98,12 +98,16 @@ fn of_settings(record: SettingsOf) -> Vec<Damage> {
     found
 }
 
-/// Compares each damage by itself. Each refusal must meet NaNs of both kinds, so that a list which is read and written back is seen.
+/// Compares each damage by itself. Each refusal of a call that writes must meet NaNs of both kinds, so that a list which is read
+/// and written back is seen.
 pub fn compare_each(entry: Entry, comparison: &mut Comparison, of_call: impl Fn(&Call) -> Option<String>) {
     made::forget();
-    comparison.kind(&format!("{}, each damage", entry.name()), singles(entry).into_iter(), of_call, smaller);
-    let left = made::nans_left(&numbers(entry));
-    comparison.reached(&format!("{}, refusals that left NaNs as they were", entry.name()), &left);
+    let inputs = singles(entry).into_iter().flat_map(each_link);
+    comparison.kind(&format!("{}, each damage", entry.name()), inputs, of_call, smaller);
+    if !entry.written().is_empty() {
+        let left = made::nans_left(&numbers(entry));
+        comparison.reached(&format!("{}, refusals that left NaNs as they were", entry.name()), &left);
+    }
 }
 
 fn singles(entry: Entry) -> Vec<Call> {

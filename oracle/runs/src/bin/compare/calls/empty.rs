@@ -3,6 +3,7 @@
 use super::damaged;
 use super::smaller::smaller;
 use super::sound::{buffers, least, sound, with_length, MOST_NODES};
+use super::wishes::each_link;
 use runs::calls::call::Call;
 use runs::calls::entry::{Entry, Task};
 use runs::comparison::Comparison;
@@ -11,8 +12,10 @@ use runs::pointers::{null_if_empty, nulls};
 /// Compares the calls with each empty list lent as NULL.
 pub fn compare(entry: Entry, comparison: &mut Comparison, of_call: impl Fn(&Call) -> Option<String>) {
     let name = format!("{}, NULL for each empty list", entry.name());
-    comparison.kind(&name, calls(entry).into_iter(), |call| null_if_empty(|| of_call(call)), smaller);
-    comparison.reached(&format!("{}, lists that were NULL", entry.name()), &nulls());
+    let inputs = calls(entry).into_iter().flat_map(each_link);
+    comparison.kind(&name, inputs, |call| null_if_empty(|| of_call(call)), smaller);
+    let lent = if entry.written().is_empty() { 1 } else { 2 };
+    comparison.reached(&format!("{}, lists that were NULL", entry.name()), &nulls()[..lent]);
 }
 
 fn calls(entry: Entry) -> Vec<Call> {

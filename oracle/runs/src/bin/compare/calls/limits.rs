@@ -125,7 +125,8 @@ pub fn by_hand(entries: &[Entry]) -> Vec<(Call, u32)> {
         found.push((weight(f64::NAN), 5));
         found.push((with_links(sound(entry), 1_048_576), 0));
         found.push((with_links(sound(entry), 1_048_577), 2));
-        found.push((with_length(sound(entry), 3, 1), 3));
+        // The first buffer that it writes, or else the last that it reads.
+        found.push((with_length(sound(entry), 3.min(buffers(entry) - 1), 1), 3));
         if entry.takes_rows() {
             found.push((Call::on_rows(entry, 2, vec![0, 2, 1], vec![0], vec![1.0]), 4));
         }
@@ -134,7 +135,7 @@ pub fn by_hand(entries: &[Entry]) -> Vec<(Call, u32)> {
     found
 }
 
-/// Those of a solve's settings, sources, targets and precision.
+/// Those of a solve's settings, sources, targets and precision, and of a search's nodes.
 fn wishes_by_hand(entry: Entry) -> Vec<(Call, u32)> {
     let wishing = |act: &dyn Fn(&mut Wish)| {
         let mut call = sound(entry);
@@ -155,6 +156,8 @@ fn wishes_by_hand(entry: Entry) -> Vec<(Call, u32)> {
         found.push((wishing(&|wish| wish.precision = -1.0), if task == Task::Watched { 7 } else { 0 }));
         found.push((wishing(&|wish| wish.many = vec![1; 65_536]), 0));
         found.push((wishing(&|wish| wish.many = vec![1; 65_537]), if task == Task::Multi { 2 } else { 0 }));
+    }
+    if entry.task().is_some() || entry.searches() {
         found.push((wishing(&|wish| wish.source = 3), 0));
         found.push((wishing(&|wish| wish.target = u32::MAX), 0));
     }

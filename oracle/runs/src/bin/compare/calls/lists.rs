@@ -1,4 +1,5 @@
 //! Link lists and rows, all of them sound: every small one, random ones, graphs with a plan.
+use super::sound::{MOST_LINKS, MOST_NODES};
 use runs::calls::call::Call;
 use runs::calls::entry::Entry;
 use runs::random::Random;
@@ -6,9 +7,19 @@ use runs::random::Random;
 /// The weights of every small list that is solved: none, below 1 and above it, where a degree counts as 1 or as itself.
 pub const FEW_WEIGHTS: [f64; 4] = [0.0, 0.5, 1.0, 3.0];
 
+/// Sizes of random graphs, in nodes and links, and how many of each are drawn in the gate and in a full run.
+pub const SIZES: [(u32, usize, u64, u64); 6] = [
+    (1, 8, 2_000, 50_000),
+    (8, 40, 20_000, 500_000),
+    (64, 400, 3_000, 60_000),
+    (1_000, 10_000, 100, 3_000),
+    (MOST_NODES, 100_000, 10, 300),
+    (MOST_NODES, MOST_LINKS, 3, 60),
+];
+
 /// Every list of up to `nodes` nodes and exactly `links` links, with ends up to the number of nodes, so also out of
 /// range, and with these weights.
-pub fn every(nodes: u32, links: u32, weights: [f64; 4]) -> impl Iterator<Item = Call> {
+pub fn every<const WEIGHTS: usize>(nodes: u32, links: u32, weights: [f64; WEIGHTS]) -> impl Iterator<Item = Call> {
     (0..=nodes).flat_map(move |n| {
         let ends = u64::from(n) + 1;
         let choices = ends * ends * weights.len() as u64;
@@ -163,4 +174,25 @@ pub fn rows(random: &mut Random, nodes: u32, links: usize, whole: bool) -> Call 
     let columns = (0..m).map(|_| ends.draw(random)).collect();
     let weights = (0..m).map(|_| weights.draw(random)).collect();
     Call::on_rows(Entry::FromMatrix, n, starts, columns, weights)
+}
+
+/// Rows of so many nodes, at least three, one of which has so many links: to all nodes but two, in turn, over and over, and with
+/// the last to one of these two. The others have up to three links each, where so many are allowed.
+pub fn long_row(random: &mut Random, nodes: u32, links: usize) -> Call {
+    let node = |random: &mut Random| random.below(u64::from(nodes)) as u32;
+    let (long, absent) = (node(random), node(random));
+    let few = if links + 3 * nodes as usize <= MOST_LINKS { 3 } else { 0 };
+    let (mut starts, mut columns) = (vec![0], Vec::new());
+    for row in 0..nodes {
+        if row == long {
+            columns.extend((1..links as u32).map(|place| (absent + 2 + place % (nodes - 2)) % nodes));
+            columns.push((absent + 1) % nodes);
+        } else {
+            columns.extend((0..random.below(few + 1)).map(|_| node(random)));
+        }
+        starts.push(columns.len() as u32);
+    }
+    let weights = Weights::any(random);
+    let weights = columns.iter().map(|_| weights.draw(random)).collect();
+    Call::on_rows(Entry::FromMatrix, nodes, starts, columns, weights)
 }

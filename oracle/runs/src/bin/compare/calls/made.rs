@@ -2,7 +2,7 @@
 use super::buffer::Buffer;
 use super::part::{Memory, Part};
 use runs::calls::call::Call;
-use runs::calls::entry::Task;
+use runs::calls::entry::{Entry, Task};
 use runs::calls::make::{make, Read};
 use runs::calls::outcome::{Outcome, Returned};
 use runs::calls::shape::Shape;
@@ -99,8 +99,8 @@ impl<'a> Made<'a> {
             Outcome::Refused(number) => Returned::refused(entry, *number),
             Outcome::Done { returned, .. } => *returned,
         };
-        if !returned.same(right) {
-            return Some(format!("{name} returns {returned:?}, where {right:?} is right"));
+        if let Some(unlike) = returned.unlike(right, &name) {
+            return Some(unlike);
         }
         if let Some(read) = self.read_altered() {
             return Some(format!("{name} has written to {read}, which it was lent to read"));
@@ -122,6 +122,18 @@ impl<'a> Made<'a> {
         let of_graph = call.entry.given().iter().zip(graph).find(|(_, altered)| *altered);
         let many = self.many.altered(&call.wish.many).then_some("the list of sources or targets");
         of_graph.map(|(shape, _)| shape.name).or(many)
+    }
+
+    /// An entry that takes rows, on those that `from_edges` has left: a caller cuts them to the kept links.
+    pub fn on_rows_left(&self, entry: Entry) -> Call {
+        let (Returned::Built(built), [Buffer::Whole(starts), Buffer::Whole(columns), Buffer::Real(weights), ..]) =
+            (self.returned, &self.written[..])
+        else {
+            unreachable!("a call of `from_edges`")
+        };
+        let kept = built.kept as usize;
+        let (columns, weights) = (columns.slice()[..kept].to_vec(), weights.slice()[..kept].to_vec());
+        Call::on_rows(entry, self.call.nodes, starts.slice().to_vec(), columns, weights)
     }
 
     /// Turns the last digit of the first number that the call has written.

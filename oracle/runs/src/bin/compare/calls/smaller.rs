@@ -20,6 +20,10 @@ pub fn smaller(call: &Call) -> Vec<Call> {
     let (firsts, seconds) = (0..few(call.first.len()), 0..few(call.second.len()));
     found.extend(firsts.filter_map(|place| with_lower(call, |smaller| &mut smaller.first[place])));
     found.extend(seconds.filter_map(|place| with_lower(call, |smaller| &mut smaller.second[place])));
+    if call.entry.task().is_some() || call.entry.searches() {
+        found.extend(with_lower(call, |smaller| &mut smaller.wish.source));
+        found.extend(with_lower(call, |smaller| &mut smaller.wish.target));
+    }
     if call.entry.task().is_some() {
         found.extend(with_smaller_wishes(call));
     }
@@ -151,8 +155,6 @@ fn with_smaller_wishes(call: &Call) -> Vec<Call> {
     let mut found: Vec<Call> = chunks(call.wish.many.len()).iter().map(|cut| without_many(call, cut)).collect();
     let many = 0..few(call.wish.many.len());
     found.extend(many.filter_map(|place| with_lower(call, |smaller| &mut smaller.wish.many[place])));
-    found.extend(with_lower(call, |smaller| &mut smaller.wish.source));
-    found.extend(with_lower(call, |smaller| &mut smaller.wish.target));
     if !same(call.wish.precision, 0.25) {
         found.push(with_wish(call, |wish| wish.precision = 0.25));
     }

@@ -1,4 +1,4 @@
-//! What a solve is given beside its graph: at the limits, a few values of each, or drawn.
+//! What a solve, or a search for a link, is given beside its graph: at the limits, a few values of each, or drawn.
 use super::sound::{sound, MOST_PUSHES};
 use runs::calls::call::{Call, Wish};
 use runs::calls::entry::{Entry, Task};
@@ -121,6 +121,17 @@ pub fn grid() -> Vec<Settings> {
         }
     }
     found
+}
+
+/// The call as it is, and where it is a search, also searches that find nothing in the small sound call: in an empty row, from no
+/// node, to no node. Rows are tested whatever is asked of them.
+pub fn each_link(call: Call) -> Vec<Call> {
+    if !call.entry.searches() {
+        return vec![call];
+    }
+    let absent = [(1, 2), (call.nodes, 0), (0, call.nodes)];
+    let asking = |(source, target)| Call { wish: Wish { source, target, ..call.wish.clone() }, ..call.clone() };
+    [call.clone()].into_iter().chain(absent.map(asking)).collect()
 }
 
 /// The next number up from one that is not below zero.

@@ -1,10 +1,12 @@
-//! What a call of one of the four entries that build rows is to come to: a refusal, or what the repaired Rust gives.
+//! What a call of the graph store is to come to, one that builds rows or one that searches them: a refusal, or what the repaired
+//! Rust gives.
 use repaired::graph::{CompressedSparseRow, PushGraph};
 use runs::calls::call::Call;
 use runs::calls::entry::Entry;
-use runs::calls::given::{graph_of_links, matrix};
+use runs::calls::given::{graph_of_links, matrix, neighbours};
 use runs::calls::outcome::{Contents, Outcome, Returned};
 use runs::calls::refusal::refusal;
+use runs::calls::theirs::searched;
 use runs::entries::Built;
 
 /// The outcome of a call of any kind.
@@ -14,7 +16,11 @@ pub fn outcome(call: &Call) -> Outcome {
         (0, Entry::FromMatrix) => graph(&PushGraph::from_matrix(&matrix(call))),
         (0, Entry::Transpose) => transposed(&matrix(call).transpose()),
         (0, Entry::RowSums) => sums(matrix(call).row_sums()),
-        (0, _) => unreachable!("an entry that builds rows"),
+        (0, Entry::HasEdge | Entry::EdgeWeight) => {
+            let returned = searched(&neighbours(call), call.entry, call.wish.source, call.wish.target);
+            Outcome::Done { returned, answer: Vec::new() }
+        }
+        (0, Entry::Solve(..)) => unreachable!("a call of the graph store"),
         (number, _) => Outcome::Refused(number),
     }
 }
@@ -53,7 +59,7 @@ pub fn sums(degrees: Vec<f64>) -> Outcome {
     done(vec![Contents::Real(degrees)])
 }
 
-/// What the three entries that take rows come to where they are done.
+/// What the three entries that build rows of rows come to where they are done.
 fn done(answer: Vec<Contents>) -> Outcome {
     Outcome::Done { returned: Returned::Number(0), answer }
 }

@@ -8,12 +8,12 @@ use mathlib.Core.Path.{_≡_, refl, sym, ap, ap₂, _∙_, subst}
 use mathlib.Core.List.{List, [], _∷_, _++_, List·Memᴰ, List·Memᴰ·head, List·Memᴰ·tail, List·Memᴰ·not-nil, List·Memᴰ·append-cases, List·Memᴰ·eq-of-singleton, Memᴰ·append-left, Memᴰ·append-right}
 use borrow.Author.Tests.{ltb-false, eqb-true}
 use lib.Dec.{ltb, eqb}
+use lib.ListN.{getD}
 use Rattle.numbers.proofs.Choice.{decided}
+use Rattle.numbers.proofs.Tables.{table-at}
 use Rattle.numbers.proofs.Tests.{both}
 use Rattle.graph.specs.Rows.{Link, Entry, link, entry, kept, gives, rowOf, rowsOf}
 use Rattle.graph.proofs.Links.{gives-own, gives-other, gives-none, kept-ends}
-use Rattle.rules.specs.Ways.{rowAt}
-use Rattle.rules.proofs.Lists.{table-at}
 
 -- a node that is out of range has no row
 pub row-none : (n v : ℕ) (links : List Link) → n ≤ v → rowOf n v links ≡ []
@@ -27,7 +27,7 @@ row-none n v (l ∷ links) h = ap₂ (λ (a b : List Entry). a ++ b) (none (ℕ-
     none (yes q) true e = let k = kept-ends n l e .0 in absurd (omega arith)
 
 -- the row at v is the row of v, wherever v is
-pub rows-at : (n : ℕ) (links : List Link) (v : ℕ) → rowAt (rowsOf n links) v ≡ rowOf n v links
+pub rows-at : (n : ℕ) (links : List Link) (v : ℕ) → getD (rowsOf n links) v [] ≡ rowOf n v links
 unfolding rowsOf
 rows-at n links v =
     table-at n _ v []
