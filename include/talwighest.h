@@ -211,7 +211,7 @@ struct talwighest_found talwighest_has_edge(
     uint32_t to
 );
 
-/* Says the same, and how much the link weighs: the first one, if the row of `from` has several links to `to`.
+/* Says the same, and how much the link weighs. If the row of `from` has several links to `to`, the first one counts.
    Refuses with 1 to 5. */
 struct talwighest_weighed talwighest_edge_weight(
     uint32_t n,

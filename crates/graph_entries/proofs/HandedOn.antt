@@ -1,4 +1,4 @@
--- What `from_edges` leaves, cut to the links that it kept, can be handed on: it stands for the rows of the links, and no call refuses it with 1 to 5.
+-- What `from_edges` leaves, cut to the links that it kept, can be handed on: it stands for the rows of the links, and these rows pass the tests 1 to 5.
 -- Assumes nothing.
 use Prim.Native.Nat.{ℕ, _+_, _≤_, zero-le}
 use mathlib.Core.Bool.{false}
@@ -54,11 +54,11 @@ module _ (n : ℕ) (from to : List ℕ) (weight : List Float) (b : RowsLent) (x 
         weights-are = ap (λ (y : Outcome Built RowsLent). y .lent .weights) done;
       }
 
-  -- they are kept
+  -- the kept links are their entries
   kept-are : x .answer .kept ≡ length (flat (rowsFrom n from to weight))
   kept-are = ap (λ (y : Outcome Built RowsLent). y .answer .kept) done
 
-  -- cut to them, they hold the rows and nothing behind them
+  -- cut to these, they hold the rows and nothing behind them
   whole : Held n (rowsFrom n from to weight) (length (flat (rowsFrom n from to weight))) (x .lent .starts) (take (x .answer .kept) (x .lent .columns)) (take (x .answer .kept) (x .lent .weights))
   whole = rw kept-are (held-cut held)
 
@@ -66,7 +66,7 @@ module _ (n : ℕ) (from to : List ℕ) (weight : List Float) (b : RowsLent) (x 
   pub built-rows : rowsIn n (x .lent .starts) (take (x .answer .kept) (x .lent .columns)) (take (x .answer .kept) (x .lent .weights)) ≡ rowsOf n (linksOf from to weight)
   built-rows = held-rows whole
 
-  -- no test refuses them
+  -- and pass the tests of rows
   pub built-pass : let columns = take (x .answer .kept) (x .lent .columns) in
       let weights = take (x .answer .kept) (x .lent .weights) in
       rowTests n 0 ((length (x .lent .starts), n + 1) ∷ (length weights, length columns) ∷ []) (x .lent .starts) columns weights ≡ 0

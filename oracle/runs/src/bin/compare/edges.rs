@@ -28,8 +28,13 @@ const WEIGHTS: [f64; 5] = [2.5, -0.0, 5e-324, 0.0, 1.0];
 const LONG_ROWS: [(u32, usize, u64, u64); 4] =
     [(20, 10, 2_000, 50_000), (1_000, 1_000, 100, 3_000), (MOST_NODES, 65_536, 5, 150), (MOST_NODES, MOST_LINKS, 3, 60)];
 
+/// The longest row of which every one is tried: a search goes through a row in blocks of eight columns, and this has four and one
+/// column more.
+const LONGEST: usize = 33;
+
 pub fn compare(asked: &Asked, comparison: &mut Comparison, random: &mut Random) {
     small_lists(asked, comparison);
+    blocks(comparison);
     random_graphs(asked, comparison, random);
     long_rows(asked, comparison, random);
 }
@@ -92,6 +97,29 @@ fn every_list(nodes: u32, links: u32, turn: usize) -> impl Iterator<Item = Askin
         graph.weights.iter_mut().zip(weights).for_each(|(weight, told)| *weight = *told);
         Asking::every_pair(graph)
     })
+}
+
+/// Whole in every run.
+fn blocks(comparison: &mut Comparison) {
+    let inputs = (0..=LONGEST).flat_map(|links| {
+        let places = move || (0..links).chain([links]);
+        places().flat_map(move |first| places().map(move |second| row_between(links, first, second)))
+    });
+    let name = format!("edges, a row of each length up to {LONGEST}, the node in each place, in each two and in none");
+    comparison.kind(&name, inputs, |asking| difference(asking, None, None), Asking::smaller);
+}
+
+/// A row of so many links, of which those in two places lead to another node than the others, if the places are inside. The rows
+/// before it and behind it lead to that node too, so that a search which leaves its row finds it. Each weight tells its place.
+fn row_between(links: usize, first: usize, second: usize) -> Asking {
+    let (row, sought, other) = (1, 3, 0);
+    let mut columns = vec![other; links];
+    [first, second].into_iter().filter(|&place| place < links).for_each(|place| columns[place] = sought);
+    let columns = [&[sought], &columns[..], &[sought]].concat();
+    let starts = [0, 1, 1 + links, 2 + links, 2 + links].map(|start| start as u32).to_vec();
+    let weights = (0..columns.len()).map(|place| place as f64).collect();
+    let graph = Call::on_rows(Entry::HasEdge, 4, starts, columns, weights);
+    Asking::sound(graph, vec![(row, sought), (row, other), (row, 2), (row - 1, sought), (row + 1, sought)])
 }
 
 /// Each search with a wrong answer where it finds a link between two nodes.

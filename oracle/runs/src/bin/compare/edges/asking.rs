@@ -38,7 +38,8 @@ impl Asking {
         Self::sound(graph, pairs)
     }
 
-    fn sound(graph: Call, pairs: Vec<(u32, u32)>) -> Self {
+    /// These pairs. What is smaller than a sound graph need not be sound, and is then passed over, so a graph must be.
+    pub fn sound(graph: Call, pairs: Vec<(u32, u32)>) -> Self {
         assert_eq!(refusal(&graph), 0, "links are asked for in a sound graph");
         Self { graph, pairs }
     }
