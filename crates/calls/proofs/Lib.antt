@@ -9,5 +9,7 @@ pub mod Fits
 pub mod Asked
 pub mod Directed
 pub mod Links
+pub mod Done
 pub mod UnreachedInCalls
+pub mod StoppedInCalls
 pub mod Queries

@@ -9,7 +9,6 @@ use lib.Ieee.{Float}
 use Rattle.numbers.specs.Numbers.{+0}
 use Rattle.refusals.specs.Calls.{Outcome, outcomeOf}
 use Rattle.refusals.specs.declared.Settings.{Settings}
-use Rattle.refusals.proofs.Laws.{number-zero, left-done}
 use Rattle.graph.specs.Rows.{Entry, linksOf, rowsIn}
 use Rattle.rules.specs.Ways.{rowAt}
 use Rattle.rules.specs.Rules.{State, Watch, at}
@@ -20,6 +19,7 @@ use Rattle.calls.specs.declared.Solved.{Solved}
 use Rattle.calls.specs.Lent.{Lending, LinksLent, solvedOf}
 use Rattle.calls.specs.Outcomes.{Given, givenLinks, givenRows, ends, solvedWith, Solves}
 use Rattle.calls.proofs.Vectors.{LeftVectors}
+use Rattle.calls.proofs.Done.{first-is, done-leaves, left-estimate, left-residual}
 
 -- ---- what a call is shown
 
@@ -54,25 +54,6 @@ module _ {S B : Type 0} {g : Given S B} {n : ℕ} {row : ℕ → List Entry} (sh
   alike-ends {h = h} also = rw (shown .nodes-are, also .nodes-are) (alike-rows backward settings watch n list (g .rows) (shown .rows-are) (h .rows) (also .rows-are))
 
 -- ---- what is left
-
--- a solve that answers 0
-module _ {B : Type 0} {number : ℕ} {g : Given State B} {s : State} {x : Outcome Solved B} (z : Solves number g s x) (done : x .answer .refusal ≡ 0) where
-  -- its first number is 0
-  first-is : number ≡ 0
-  unfolding solvedWith
-  first-is = number-zero _ _ _ (λ y. y .refusal) (λ k. refl) refl number (z .leaves) done
-
-  -- leaves its counts, its norm and its vectors
-  done-leaves : x ≡ outcomeOf (solvedOf 0 (s .pushes) (visitedCount s) (z .norm)) (g .after s)
-  unfolding solvedWith
-  done-leaves = left-done _ _ _ (λ y. y .refusal) (λ k. refl) refl number (z .leaves) done
-
-  module _ (w : LeftVectors g) where
-    left-estimate : w .estimateOf (x .lent) ≡ s .estimate
-    left-estimate = ap (λ (y : Outcome Solved B). w .estimateOf (y .lent)) done-leaves ∙ w .estimate-after s
-
-    left-residual : w .residualOf (x .lent) ≡ s .residual
-    left-residual = ap (λ (y : Outcome Solved B). w .residualOf (y .lent)) done-leaves ∙ w .residual-after s
 
 -- two calls left the same answer, and the same vectors
 pub record SameLeft {B C : Type 0} {g : Given State B} {h : Given State C} (v : LeftVectors g) (w : LeftVectors h) (x : Outcome Solved B) (y : Outcome Solved C) : Type 0 where

@@ -6,3 +6,4 @@ pub mod Tables
 pub mod NoneOf
 pub mod Over
 pub mod Zeros
+pub mod Above

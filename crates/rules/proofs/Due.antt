@@ -1,8 +1,9 @@
--- Whose turn it is: one who waits, while a push is left. Where nobody waits, nobody is next. Assumes nothing.
-use Prim.Native.Nat.{ℕ, suc, _+_, _<_}
+-- Whose turn it is: one who waits, while a push is left. Where nobody waits, nobody is next, and the other way round. Assumes nothing.
+use Prim.Native.Nat.{ℕ, zero, suc, _+_, _<_}
 use native.Mathlib.Nat.{zero-add, lt-of-not-le}
 use native.Mathlib.Omega.{arith}
-use mathlib.Core.Path.{_≡_, refl, subst}
+use mathlib.Core.Bool.{Bool, true, false, false≢true}
+use mathlib.Core.Path.{_≡_, refl, sym, ap, _∙_, subst}
 use mathlib.Core.List.{List, [], _∷_}
 use borrow.Author.Tests.{ltb-true}
 use lib.ListN.{length, getD, List·getD-eq-default}
@@ -50,6 +51,33 @@ found-none v (waits p ∷ slots) h = absurd (omega arith)
 pub next-none : (slots : List Slot) → taken slots ≡ 0 → next slots ≡ nobody
 unfolding next
 next-none slots h = found-none 0 slots h
+
+-- one of a queue is somebody
+abbrev isSomebody : Best → Bool
+isSomebody nobody = false
+isSomebody (best v p) = true
+
+-- and so is the better of two
+better-found : (b : Best) (v : ℕ) (p : Float) → isSomebody (better b v p) ≡ true
+unfolding better
+better-found nobody v p = refl
+better-found (best u q) v p = either (λ b. isSomebody b ≡ true) _ refl refl
+
+-- where nobody is found, nobody was before, and nobody waits
+none-found : (b : Best) (u : ℕ) (slots : List Slot) → bestFrom b u slots ≡ nobody → (b ≡ nobody) × ((k : ℕ) → getD slots k out ≡ out)
+unfolding bestFrom
+none-found b u [] e = (e, λ k. refl)
+none-found b u (out ∷ slots) e = let z = none-found b (suc u) slots e in (z .0, all (z .1))
+  where
+    all : ((k : ℕ) → getD slots k out ≡ out) → (k : ℕ) → getD (out ∷ slots) k out ≡ out
+    all h zero = refl
+    all h (suc k) = h k
+none-found b u (waits p ∷ slots) e = absurd (false≢true (sym (ap isSomebody (none-found (better b u p) (suc u) slots e .0)) ∙ better-found b u p))
+
+-- and so, where nobody is next, nobody waits
+pub nobody-waits : (slots : List Slot) → next slots ≡ nobody → (k : ℕ) → getD slots k out ≡ out
+unfolding next
+nobody-waits slots e = none-found nobody 0 slots e .1
 
 -- ---- whose turn it is
 

@@ -44,7 +44,7 @@ spans n =
     }
 
 -- the blank state has them
-blank-spans : (n : ℕ) (threshold : Float) → Spans n (blank n threshold)
+pub blank-spans : (n : ℕ) (threshold : Float) → Spans n (blank n threshold)
 unfolding blank
 blank-spans n threshold =
     record { estimate-long = length-replicate n _; residual-long = length-replicate n _; slots-long = length-replicate n _; visited-long = length-replicate n _ }

@@ -1,4 +1,4 @@
--- The theorems on the rules: a solve ends, what it looks at, which nodes it marks.
+-- The theorems on the rules: a solve ends, what is left where it stops, what it looks at, which nodes it marks.
 pub mod Lists
 pub mod Slots
 pub mod Each
@@ -9,6 +9,7 @@ pub mod Uncounted
 pub mod Due
 pub mod Ends
 pub mod Starts
+pub mod Stopped
 pub mod Local
 pub mod Transposed
 pub mod Paths

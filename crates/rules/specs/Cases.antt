@@ -6,7 +6,7 @@ use mathlib.Core.List.{List, [], _∷_}
 use mathlib.Core.Path.{_≡_, refl}
 use lib.IntN.{negsuc}
 use lib.Dec.{lit<, lit≤}
-use lib.Ieee.{Float, fin, odd, ofBits, ofInt, add, sub, mul, div, lt, le}
+use lib.Ieee.{Float, nan, inf, fin, binary64, fits, odd, ofBits, ofInt, add, sub, mul, div, lt, le}
 use Rattle.numbers.specs.Numbers.{f64, +0, one}
 use Rattle.numbers.specs.Choice.{if_then_else_}
 use Rattle.numbers.specs.Tables.{tabulate, any}
@@ -18,9 +18,10 @@ use Rattle.marks.specs.Marks.{howMany}
 use Rattle.graph.specs.Rows.{Link, link, kept, gives, rowOf, rowsOf, sumFrom, degree, into, intoFrom, transposed}
 use Rattle.queue.specs.Waiting.{out, taken, answer, offered, better, bestFrom, next, usual, adapted}
 use Rattle.rules.specs.Ways.{pushForward, pushBackward, effective, transition, shareOf, wayOf, over, overLinks, degreeOf}
-use Rattle.rules.specs.Rules.{each, State, unwatched, watched, blank, queued, gain, absorb, thresholdAfter, counted, offer, pass, handOut, push, stops, goesOn, due, skips, visit, turn, onward, run}
+use Rattle.rules.specs.Rules.{each, State, Watch, unwatched, watched, blank, queued, gain, absorb, thresholdAfter, counted, offer, pass, handOut, push, stops, goesOn, due, skips, visit, turn, onward, run}
 use Rattle.rules.specs.Rules.{inside, watchable, begun, start, enough, solve}
 use Rattle.rules.specs.Pushed.{pushed, distinct}
+use Rattle.rules.specs.StillDue.{stillDue, Steady}
 use Rattle.rules.specs.Answers.{visitedCount, scoreAt, extrapolated, combined, together, neither, backwardAlone, forwardAlone, both, byDegrees, methodAmong, method}
 
 -- ---- numbers
@@ -129,6 +130,23 @@ ending pushes visited estimate residual = record { pushes = pushes; visited = vi
 abbrev shown : State → Ending
 shown s = ending (s .pushes) (visitedCount s) (s .estimate) (s .residual)
 
+-- where a solve stops: its pushes, what is left over at each node, and whether a push is still due there
+pub record Stop : Type 0 where
+  pub pushes : ℕ
+  pub residual : List Float
+  pub due : List Bool
+
+-- a stop, by its parts
+abbrev stop : ℕ → List Float → List Bool → Stop
+stop pushes residual due = record { pushes = pushes; residual = residual; due = due }
+
+-- that of a solve of a list of links
+abbrev stopping : Bool → ℕ → List Link → Settings → Watch → List ℕ → Stop
+stopping direction n links settings watch sources =
+    let way = overLinks direction n links in
+    let s = solve way settings watch n sources in
+    stop (s .pushes) (s .residual) (tabulate n (stillDue way settings (s .residual)))
+
 -- the list
 pub record Worked : Type 0 where
   -- P1: three pushes, two nodes
@@ -203,6 +221,29 @@ pub record Worked : Type 0 where
   -- the threshold adapts at the thousandth push, and not before: × 0.9, since nobody waits
   pub adapts : counted adaptive 0 (after 999) .threshold ≡ f64 0x3fcc_cccc_cccc_cccd
   pub adapts-not : counted adaptive 0 (after 998) .threshold ≡ quarter
+  -- the statement for the stop: with pushes left nothing is due, though something is left over at node 1: 1/8, which is below both bars (P1), 1/2 below an
+  -- epsilon of 3/4 alone (P6), and 1/2 below a threshold of 3/4 alone
+  pub stop-below-both : stopping pushForward 2 (chain one) (usually 10) unwatched (0 ∷ []) ≡ stop 3 (+0 ∷ eighth ∷ []) (false ∷ false ∷ [])
+  pub stop-below-epsilon : stopping pushForward 2 (chain one) (set-to half three-quarters quarter 10) unwatched (0 ∷ []) ≡ stop 1 (+0 ∷ half ∷ []) (false ∷ false ∷ [])
+  pub stop-below-threshold : stopping pushForward 2 (chain one) (set-to half quarter three-quarters 10) unwatched (0 ∷ []) ≡ stop 1 (+0 ∷ half ∷ []) (false ∷ false ∷ [])
+  -- both bars go by e: with a degree of 2, 1 is below 3/4 × 2, and 1/2 is below 3/4
+  pub stop-by-degree : stopping pushForward 3 (fork one one) (set-to half three-quarters quarter 10) unwatched (0 ∷ []) ≡ stop 0 (one ∷ +0 ∷ +0 ∷ []) (false ∷ false ∷ false ∷ [])
+  pub stop-over-degree : stopping pushForward 3 (fork one one) (set-to half quarter three-quarters 10) unwatched (0 ∷ []) ≡ stop 0 (one ∷ +0 ∷ +0 ∷ []) (false ∷ false ∷ false ∷ [])
+  pub stop-by-in-degree : stopping pushBackward 3 joint (set-to half three-quarters quarter 10) unwatched (2 ∷ []) ≡ stop 0 (+0 ∷ +0 ∷ one ∷ []) (false ∷ false ∷ false ∷ [])
+  pub stop-over-in-degree : stopping pushBackward 3 joint (set-to half quarter three-quarters 10) unwatched (2 ∷ []) ≡ stop 0 (+0 ∷ +0 ∷ one ∷ []) (false ∷ false ∷ false ∷ [])
+  -- the settings of the cases are such as it is about
+  pub usually-steady : Steady (usually 10)
+  -- with one premise dropped something is due. No push is left (P7): 1/4 at node 1 is at both bars, which is enough, and 1/8 at node 2 is below
+  pub due-without-pushes : stopping pushForward 3 (fork one one) (usually 2) unwatched (0 ∷ []) ≡ stop 2 (+0 ∷ quarter ∷ eighth ∷ []) (false ∷ true ∷ false ∷ [])
+  -- the early stop leaves 1/2 at node 1
+  pub due-when-watched : stopping pushForward 2 (chain one) (usually 10) (watched 0 quarter) (0 ∷ []) ≡ stop 1 (+0 ∷ half ∷ []) (false ∷ true ∷ [])
+  -- epsilon and threshold are 0: nothing is at least that
+  pub due-at-epsilon-zero : stopping pushForward 2 (chain one) (set-to one +0 +0 10) unwatched (0 ∷ []) ≡ stop 2 (+0 ∷ +0 ∷ []) (true ∷ true ∷ [])
+  -- epsilon is above 0 and no binary64: 2^-2000 times 1 is rounded to 0
+  pub no-binary : fits binary64 (fin false 1 (negsuc 1999)) ≡ false
+  pub due-at-no-binary : stopping pushForward 2 (chain one) (set-to one (fin false 1 (negsuc 1999)) +0 10) unwatched (0 ∷ []) ≡ stop 2 (+0 ∷ +0 ∷ []) (true ∷ true ∷ [])
+  -- no push is due at a NaN, and one is at an infinity
+  pub no-number-due : tabulate 2 (stillDue (overLinks pushForward 2 []) (usually 10) (nan ∷ inf false ∷ [])) ≡ false ∷ true ∷ []
   -- the choice of adaptive_solve: the out-degree of the source against 2 × the in-degree of the target
   pub by-both : method 3 (rowsOf 3 (fork one one)) 0 1 ≡ both
   pub by-backward : method 3 (rowsOf 3 (fork one two)) 0 1 ≡ backwardAlone
@@ -211,7 +252,7 @@ pub record Worked : Type 0 where
 
 -- the list holds
 pub worked : Worked
-unfolding if_then_else_ tabulate howMany kept gives rowOf rowsOf sumFrom degree into intoFrom transposed taken answer offered better bestFrom next usual adapted effective transition shareOf wayOf over degreeOf each blank queued gain absorb thresholdAfter counted offer pass handOut push stops goesOn due skips visit turn onward run inside watchable begun start enough solve pushed distinct any visitedCount scoreAt extrapolated combined byDegrees methodAmong method addSquares ofBits ofInt add sub mul div lt le odd
+unfolding if_then_else_ tabulate howMany kept gives rowOf rowsOf sumFrom degree into intoFrom transposed taken answer offered better bestFrom next usual adapted effective transition shareOf wayOf over degreeOf each blank queued gain absorb thresholdAfter counted offer pass handOut push stops goesOn due skips visit turn onward run inside watchable begun start enough solve stillDue pushed distinct any visitedCount scoreAt extrapolated combined byDegrees methodAmong method addSquares fits ofBits ofInt add sub mul div lt le odd
 worked =
     record {
       chain-forward = refl;
@@ -258,6 +299,20 @@ worked =
       unwatchable = refl;
       adapts = refl;
       adapts-not = refl;
+      stop-below-both = refl;
+      stop-below-epsilon = refl;
+      stop-below-threshold = refl;
+      stop-by-degree = refl;
+      stop-over-degree = refl;
+      stop-by-in-degree = refl;
+      stop-over-in-degree = refl;
+      usually-steady = record { binary = refl; above = refl; adapts-not = refl };
+      due-without-pushes = refl;
+      due-when-watched = refl;
+      due-at-epsilon-zero = refl;
+      no-binary = refl;
+      due-at-no-binary = refl;
+      no-number-due = refl;
       by-both = refl;
       by-backward = refl;
       by-forward = refl;

@@ -4,4 +4,5 @@ pub mod Rules
 pub mod Answers
 pub mod Pushed
 pub mod Reach
+pub mod StillDue
 pub mod Cases
