@@ -62,10 +62,10 @@
 #include <stdint.h>
 
 /* CHANGELOG.md, in the repository, says what each version changed. */
-#define TALWIGHEST_VERSION "0.3.0"
+#define TALWIGHEST_VERSION "0.3.1"
 #define TALWIGHEST_VERSION_MAJOR 0
 #define TALWIGHEST_VERSION_MINOR 3
-#define TALWIGHEST_VERSION_PATCH 0
+#define TALWIGHEST_VERSION_PATCH 1
 
 #ifdef __cplusplus
 extern "C" {

@@ -4,7 +4,7 @@ mod chain;
 use chain::{backward, forward, settings, CHAIN, CHAIN_ROWS};
 use talwighest::entries::{self, Built, Found, RowBuffers, Weighed};
 use talwighest::{combine_with_forward, compute_residual_norm, extrapolated_solution, square_root};
-use talwighest::{Links, Matrix, OwnedRows};
+use talwighest::{Links, Matrix, OwnedRows, Settings};
 
 /// What both forms of a call on the chain give.
 macro_rules! on_chain {
@@ -54,6 +54,22 @@ fn has_edge_and_edge_weight() {
         assert_eq!(entries::has_edge(rows, from, to), Found { refusal: 0, found: weight.is_some() });
         let answer = weight.map_or(none, |weight| Weighed { found: true, weight, ..none });
         assert_eq!(entries::edge_weight(rows, from, to), answer);
+    }
+}
+
+/// Whether a push is still due at a node of the chain, where d is 1.
+fn is_due(remainder: f64, settings: Settings) -> bool {
+    remainder >= settings.epsilon && remainder >= settings.queue_threshold
+}
+
+#[test]
+fn pushes_that_are_still_due() {
+    let high_threshold = Settings { queue_threshold: 0.75, ..settings(10) };
+    let stops = [(settings(10), 3, 0.125, false), (settings(1), 1, 0.5, true), (high_threshold, 1, 0.5, false)];
+    for (settings, pushes, remainder, due) in stops {
+        let solved = on_chain!(solve_single_source(0, settings));
+        assert_eq!((solved.push_count, solved.residual), (pushes, vec![0.0, remainder]));
+        assert_eq!((is_due(0.0, settings), is_due(remainder, settings)), (false, due));
     }
 }
 

@@ -7,17 +7,16 @@ use mathlib.Core.List.{List}
 use mathlib.Core.Path.{_≡_, refl, sym, ap, _∙_}
 use lib.Ieee.{Float}
 use Rattle.numbers.specs.Numbers.{+0}
-use Rattle.refusals.specs.Calls.{Outcome, outcomeOf}
+use Rattle.refusals.specs.Calls.{Outcome}
 use Rattle.refusals.specs.declared.Settings.{Settings}
 use Rattle.graph.specs.Rows.{Entry, linksOf, rowsIn}
 use Rattle.rules.specs.Ways.{rowAt}
 use Rattle.rules.specs.Rules.{State, Watch, at}
-use Rattle.rules.specs.Answers.{visitedCount}
 use Rattle.rules.specs.Reach.{Connected, SameConnected, keptLinks, Alike, Untouched}
 use Rattle.rules.proofs.Unreached.{rows-kept, untouched-rows, alike-rows}
 use Rattle.calls.specs.declared.Solved.{Solved}
-use Rattle.calls.specs.Lent.{Lending, LinksLent, solvedOf}
-use Rattle.calls.specs.Outcomes.{Given, givenLinks, givenRows, ends, solvedWith, Solves}
+use Rattle.calls.specs.Lent.{Lending, LinksLent}
+use Rattle.calls.specs.Outcomes.{Given, givenLinks, givenRows, ends, Solves}
 use Rattle.calls.proofs.Vectors.{LeftVectors}
 use Rattle.calls.proofs.Done.{first-is, done-leaves, left-estimate, left-residual}
 

@@ -52,18 +52,18 @@ pub next-none : (slots : List Slot) → taken slots ≡ 0 → next slots ≡ nob
 unfolding next
 next-none slots h = found-none 0 slots h
 
--- one of a queue is somebody
+-- whether somebody is found
 abbrev isSomebody : Best → Bool
 isSomebody nobody = false
 isSomebody (best v p) = true
 
--- and so is the better of two
+-- the better of two is somebody
 better-found : (b : Best) (v : ℕ) (p : Float) → isSomebody (better b v p) ≡ true
 unfolding better
 better-found nobody v p = refl
 better-found (best u q) v p = either (λ b. isSomebody b ≡ true) _ refl refl
 
--- where nobody is found, nobody was before, and nobody waits
+-- where nobody is found, nobody was found before, and nobody waits
 none-found : (b : Best) (u : ℕ) (slots : List Slot) → bestFrom b u slots ≡ nobody → (b ≡ nobody) × ((k : ℕ) → getD slots k out ≡ out)
 unfolding bestFrom
 none-found b u [] e = (e, λ k. refl)
