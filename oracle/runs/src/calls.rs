@@ -4,6 +4,7 @@ pub mod approach;
 pub mod call;
 pub mod entry;
 pub mod given;
+pub mod left;
 pub mod lending;
 pub mod make;
 pub mod outcome;

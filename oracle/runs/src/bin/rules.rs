@@ -1,10 +1,12 @@
 //! Writes what the repaired Rust answers on seeded small graphs as a crate of equations between the push rules and
-//! those answers, numbers as bit patterns. Where the prover admits the crate, computing the rules gave the same.
+//! those answers, numbers as bit patterns, and with them where a push is still due after each solve. Where the prover
+//! admits the crate, computing the rules gave the same.
 //!
 //! `rules FOLDER`, or `rules FOLDER planted`, which writes one graph alone, and one answer of it wrong
 use repaired::graph::PushGraph;
 use repaired::solver::backward_push::{BackwardPushSolver, BidirectionalPushSolver};
 use repaired::solver::forward_push::ForwardPushSolver;
+use runs::calls::left;
 use runs::calls::theirs::Run;
 use runs::entries::Settings;
 use runs::random::Random;
@@ -34,6 +36,7 @@ use Rattle.rules.specs.Ways.{pushForward, pushBackward, effective, transition, 
 use Rattle.rules.specs.Rules.{each, State, unwatched, watched, blank, queued, gain, absorb, thresholdAfter, counted, offer, pass, handOut, push}
 use Rattle.rules.specs.Rules.{stops, goesOn, due, skips, visit, turn, onward, run, inside, watchable, begun, start, enough, solve}
 use Rattle.rules.specs.Answers.{visitedCount, scoreAt, extrapolated, combined, byDegrees, methodAmong, method, answerBy}
+use Rattle.rules.specs.StillDue.{stillDue}
 use Rattle.rules.specs.Cases.{Ending}
 use Rattle.rules.proofs.Ends.{run-add}
 
@@ -47,7 +50,7 @@ shown s = ending (s .pushes) (visitedCount s) (s .estimate) (s .residual)
 const UNFOLDING: &str = "unfolding if_then_else_ tabulate howMany kept gives rowOf rowsOf sumFrom degree into intoFrom \
 transposed taken answer offered better bestFrom next usual adapted effective transition shareOf wayOf over degreeOf each \
 blank queued gain absorb thresholdAfter counted offer pass handOut push stops goesOn due skips visit turn onward run \
-inside watchable begun start enough solve visitedCount scoreAt extrapolated combined byDegrees methodAmong method answerBy \
+inside watchable begun start enough solve stillDue visitedCount scoreAt extrapolated combined byDegrees methodAmong method answerBy \
 addSquares ofBits ofInt add sub mul div lt le odd";
 
 /// A list as antt writes it.
@@ -105,19 +108,27 @@ impl Written {
         self.fact(name, &format!("{rules} ≡ {rust}"), "refl");
     }
 
-    /// The ending of one solve, and its norm.
-    fn solve(&mut self, name: &str, direction: &str, watch: &str, from: &[usize], n: usize, r: &Run) {
-        let graph = self.graph;
+    /// The ending of one solve, its norm, and at which nodes a push is still due.
+    fn solve(&mut self, name: &str, side: &Side, watch: &str, from: &[usize], r: &Run) {
+        let (graph, direction, n) = (self.graph, side.direction, r.residual.len());
         let pushes = r.push_count + usize::from(std::mem::take(&mut self.planted));
-        let rules = format!(
-            "shown (solve (overLinks {direction} {n} links-{graph}) {direction}-{graph} {watch} {n} ({}))",
-            nodes(from)
-        );
-        let rust = format!("ending {pushes} {} ({}) ({})", r.nodes_visited, numbers(&r.estimate), numbers(&r.residual));
+        let way = format!("(overLinks {direction} {n} links-{graph}) {direction}-{graph}");
+        let rules = format!("shown (solve {way} {watch} {n} ({}))", nodes(from));
+        let residual = numbers(&r.residual);
+        let rust = format!("ending {pushes} {} ({}) ({residual})", r.nodes_visited, numbers(&r.estimate));
         self.equation(name, &rules, &rust);
-        let statement = format!("Norm ({}) ({})", numbers(&r.residual), bits(r.residual_norm));
+        let statement = format!("Norm ({residual}) ({})", bits(r.residual_norm));
         self.fact(&format!("{name}-norm"), &statement, &root(r.residual_norm));
+        let due = listed(left::nodes(&r.residual, side.degrees, side.settings).map(|left| left.is_due().to_string()));
+        self.equation(&format!("{name}-due"), &format!("tabulate {n} (stillDue {way} ({residual}))"), &due);
     }
+}
+
+/// A direction as the rules name it, with the settings and the degrees that its solves go by.
+struct Side<'a> {
+    direction: &'static str,
+    settings: &'a Settings,
+    degrees: &'a [f64],
 }
 
 /// A list of links among n nodes, with the settings of both directions.
@@ -164,18 +175,25 @@ fn record(c: &Settings) -> String {
     )
 }
 
-fn write(w: &mut Written, g: &Given, random: &mut Random) {
-    let (n, graph) = (g.n, w.graph);
+/// Names for the links and for the settings of both directions.
+fn write_given(w: &mut Written, g: &Given) {
+    let graph = w.graph;
     let links = listed(g.links.iter().map(|&(f, t, x)| format!("link {f} {t} ({})", bits(x))));
     writeln!(w.text, "\nabbrev links-{graph} : List Link\nlinks-{graph} = {links}").expect("a string");
     for (name, c) in [("pushForward", &g.forward), ("pushBackward", &g.backward)] {
         writeln!(w.text, "\nabbrev {name}-{graph} : Settings\n{name}-{graph} = {}", record(c)).expect("a string");
     }
+}
 
+fn write(w: &mut Written, g: &Given, random: &mut Random) {
+    write_given(w, g);
+    let (n, graph) = (g.n, w.graph);
     let made = PushGraph::from_edges(n, &g.links);
     let forward = ForwardPushSolver::new(made.clone(), g.forward.forward());
     let backward = BackwardPushSolver::new(made.clone(), g.backward.backward());
-    let both = BidirectionalPushSolver::new(made, g.forward.forward(), g.backward.backward());
+    let both = BidirectionalPushSolver::new(made.clone(), g.forward.forward(), g.backward.backward());
+    let along = Side { direction: "pushForward", settings: &g.forward, degrees: &made.degrees };
+    let against = Side { direction: "pushBackward", settings: &g.backward, degrees: &made.reverse_degrees };
     let (source, target) = (node(random, n), node(random, n));
     let many: Vec<usize> = (0..random.below(4)).map(|_| node(random, n)).collect();
     let precision = random.one_of(&[0.0, 0.05, 0.2, 0.5]);
@@ -183,14 +201,14 @@ fn write(w: &mut Written, g: &Given, random: &mut Random) {
     let watch = |v: usize| format!("(watched {v} ({}))", bits(precision));
     let from_source = Run::from(forward.solve_single_source(source));
     let to_target = Run::from(backward.solve_single_target(target));
-    w.solve("single-source", "pushForward", "unwatched", &[source], n, &from_source);
-    w.solve("many-sources", "pushForward", "unwatched", &many, n, &forward.solve_multi_source(&many).into());
+    w.solve("single-source", &along, "unwatched", &[source], &from_source);
+    w.solve("many-sources", &along, "unwatched", &many, &forward.solve_multi_source(&many).into());
     let stopped = forward.solve_with_target(source, target, precision).into();
-    w.solve("with-target", "pushForward", &watch(target), &[source], n, &stopped);
-    w.solve("single-target", "pushBackward", "unwatched", &[target], n, &to_target);
-    w.solve("many-targets", "pushBackward", "unwatched", &many, n, &backward.solve_multi_target(&many).into());
+    w.solve("with-target", &along, &watch(target), &[source], &stopped);
+    w.solve("single-target", &against, "unwatched", &[target], &to_target);
+    w.solve("many-targets", &against, "unwatched", &many, &backward.solve_multi_target(&many).into());
     let stopped = backward.solve_with_source(source, target, precision).into();
-    w.solve("with-source", "pushBackward", &watch(source), &[target], n, &stopped);
+    w.solve("with-source", &against, &watch(source), &[target], &stopped);
 
     let rules = |direction: &str, v: usize| {
         format!("(solve (overLinks {direction} {n} links-{graph}) {direction}-{graph} unwatched {n} ({v} ∷ []))")

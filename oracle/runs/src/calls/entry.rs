@@ -88,7 +88,7 @@ impl Solver {
 }
 
 impl Question {
-    fn name(self) -> &'static str {
+    pub fn name(self) -> &'static str {
         match (self.task, self.solver) {
             (Task::Single, Solver::Forward) => "solve_single_source",
             (Task::Multi, Solver::Forward) => "solve_multi_source",

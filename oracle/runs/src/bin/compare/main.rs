@@ -6,8 +6,8 @@
 //! root, the norm, the graph store and the calls on vectors alone, `recorded` what `record solver` wrote of the Rust,
 //! which itself is not called there, `jobs` the job program as a process. `planted` puts one wrong digit, or a wrong no, into
 //! some of the proved library's answers, of the square root, of each search for a link, of each call of the solvers, of each
-//! that is recorded and of the job program, to show that a difference is found: the program must then fail, and it does so
-//! only where each is found.
+//! that is recorded and of the job program, to show that a difference is found, and leaves a push due in the Rust's vectors of each
+//! solve that is held to the statement for the stop: the program must then fail, and it does so only where each is found.
 //! With `for` it begins anew with the next seed, part by part, until so many minutes are over.
 //!
 //! `behind` puts every list that is lent right before memory that nothing may touch, and `before` right behind such memory, so

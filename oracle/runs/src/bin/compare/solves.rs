@@ -1,8 +1,10 @@
 //! The calls of the forward, backward and bidirectional solvers against the Rust's, and against the refusals of
-//! docs/RULES.md. Each call is compared whole: what it returns, and every word of every buffer.
+//! docs/RULES.md. Each call is compared whole: what it returns, and every word of every buffer. What the Rust's solves leave is also
+//! held to the statement for the stop.
 mod adaptive;
 mod boundaries;
 mod expected;
+mod stop;
 mod watched;
 
 use crate::calls::made::{self, Made};
@@ -11,10 +13,11 @@ use crate::calls::sound::{MOST_LINKS, MOST_NODES, MOST_OF_MANY};
 use crate::calls::{damaged, empty, limits, lists, sharing, wishes};
 use crate::Asked;
 pub use adaptive::Layout;
+use expected::Expected;
 use runs::calls::call::{Call, Wish};
 use runs::calls::entry::{Entry, Form, Question, Solver, Task};
+use runs::calls::outcome::Outcome;
 use runs::calls::refusal::{misread, refusal};
-use runs::calls::theirs::Theirs;
 use runs::calls::{approach, given};
 use runs::comparison::Comparison;
 use runs::entries::Settings;
@@ -28,6 +31,7 @@ struct Solves<'a> {
 
 pub fn compare(asked: &Asked, solver: Solver, comparison: &mut Comparison, random: &mut Random) {
     let solves = Solves { asked, solver };
+    stop::forget();
     solves.small_graphs(comparison, random);
     solves.refusals(comparison, random);
     solves.random_graphs(comparison, random);
@@ -44,15 +48,23 @@ pub fn compare(asked: &Asked, solver: Solver, comparison: &mut Comparison, rando
         comparison.reached("adaptive_solve, each approach", &approach::taken());
         let to_itself = [("of them", approach::from_a_node_to_itself())];
         comparison.reached("adaptive_solve, from a node to itself", &to_itself);
+    } else {
+        solves.reached(comparison, "the statement for the stop", &stop::counts());
     }
 }
 
-/// Each call with a wrong digit in its answers on two nodes.
+/// Each call with a wrong digit in its answers on two nodes, and each solve that is held to the statement for the stop with a push
+/// left due there.
 pub fn planted(solver: Solver, comparison: &mut Comparison, random: &mut Random) {
     for entry in solver.entries() {
         let inputs = on_small_graphs(random, solver, 2, 1, 1);
         let name = format!("{}, planted", entry.name());
         comparison.kind(&name, inputs, |call| of_graph_spoiling(call, Some(entry)), smaller);
+    }
+    for question in solver.questions().into_iter().filter(|question| stop::covers(question.task)) {
+        let inputs = on_small_graphs(random, solver, 2, 1, 1);
+        let name = format!("{}, a push left due, planted", question.name());
+        comparison.kind(&name, inputs, |call| of_stop_spoiled(call, question), smaller);
     }
 }
 
@@ -277,25 +289,35 @@ fn of_graph_spoiling(call: &Call, spoiled: Option<Entry>) -> Option<String> {
     if !call.entry.takes_rows() {
         forms.push(call.clone());
     }
-    let theirs = Theirs::new(solver, graph, &call.wish);
+    let expected = Expected::new(solver, graph, &call.wish);
     // A call that asks for something else may have more sources or targets than are allowed.
     let asked = |question: &Question| question.task != Task::Multi || call.wish.many.len() <= MOST_OF_MANY;
     solver.questions().into_iter().filter(asked).find_map(|question| {
-        let outcome = theirs.done(&call.wish, question);
-        forms.iter_mut().find_map(|form| {
-            form.ask(question);
-            let mut made = Made::of(form);
-            if spoiled == Some(form.entry) && form.nodes == 2 {
-                made.spoil();
-            }
-            made.difference(&outcome)
-        })
+        let compared = |outcome: Outcome| {
+            forms.iter_mut().find_map(|form| {
+                form.ask(question);
+                let mut made = Made::of(form);
+                if spoiled == Some(form.entry) && form.nodes == 2 {
+                    made.spoil();
+                }
+                made.difference(&outcome)
+            })
+        };
+        expected.done(&call.wish, question).map_or_else(Some, compared)
     })
+}
+
+/// What the statement for the stop says of one solve of the graph, whose vectors on two nodes are spoiled.
+fn of_stop_spoiled(call: &Call, question: Question) -> Option<String> {
+    if refusal(call) != 0 || call.nodes != 2 {
+        return None;
+    }
+    Expected::new(question.solver, given::graph(call), &call.wish).spoiled(&call.wish, question)
 }
 
 /// One call of any kind.
 fn of_call(call: &Call) -> Option<String> {
-    Made::of(call).difference(&expected::outcome(call))
+    expected::outcome(call).map_or_else(Some, |outcome| Made::of(call).difference(&outcome))
 }
 
 /// Every solve of what the call is given, in lists by themselves and in lists that share memory.
@@ -303,8 +325,9 @@ fn of_shared(call: &Call) -> Option<String> {
     let Entry::Solve(Question { solver, .. }, _) = call.entry else { unreachable!("a solve") };
     solver.questions().into_iter().find_map(|question| {
         let call = call.clone().solving(question);
-        let outcome = expected::outcome(&call);
-        Made::of(&call).difference(&outcome).or_else(|| Made::sharing(&call).difference(&outcome))
+        let compared =
+            |outcome: Outcome| Made::of(&call).difference(&outcome).or_else(|| Made::sharing(&call).difference(&outcome));
+        expected::outcome(&call).map_or_else(Some, compared)
     })
 }
 

@@ -95,7 +95,10 @@ impl Layout {
         let threshold = (0.1 + 0.3 * random.unit()) / f64::from(leaves);
         let other = 1 + random.below(u64::from(leaves)) as u32;
         let alpha = 0.1 + 0.2 * random.unit();
-        self.solve(leaves + 1, links, wish(alpha, threshold, 500_000), other)
+        let mut wish = wish(alpha, threshold, 500_000);
+        // Below the threshold it leaves no push out, and above zero the statement for the stop fails for the rise alone.
+        wish.settings.epsilon = threshold / 2.0;
+        self.solve(leaves + 1, links, wish, other)
     }
 
     /// As many sources, or targets, as nodes, without links: the queue holds them all until nodes are left out. Sizes
