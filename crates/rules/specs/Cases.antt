@@ -237,7 +237,7 @@ pub record Worked : Type 0 where
   pub due-without-pushes : stopping pushForward 3 (fork one one) (usually 2) unwatched (0 ∷ []) ≡ stop 2 (+0 ∷ quarter ∷ eighth ∷ []) (false ∷ true ∷ false ∷ [])
   -- the early stop leaves 1/2 at node 1
   pub due-when-watched : stopping pushForward 2 (chain one) (usually 10) (watched 0 quarter) (0 ∷ []) ≡ stop 1 (+0 ∷ half ∷ []) (false ∷ true ∷ [])
-  -- epsilon and threshold are 0: nothing is at least that
+  -- epsilon and threshold are 0, and a residual of +0 is at least both bars
   pub due-at-epsilon-zero : stopping pushForward 2 (chain one) (set-to one +0 +0 10) unwatched (0 ∷ []) ≡ stop 2 (+0 ∷ +0 ∷ []) (true ∷ true ∷ [])
   -- epsilon is above 0 and no binary64: 2^-2000 times 1 is rounded to 0
   pub no-binary : fits binary64 (fin false 1 (negsuc 1999)) ≡ false
