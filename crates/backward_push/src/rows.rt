@@ -2,6 +2,7 @@
 ghost use mathlib.Core.Path.{_≡_};
 ghost use lib.ListN.{length};
 ghost use Rattle.refusals.specs.Calls.{outcomeOf};
+ghost use Rattle.refusals.specs.Refusals.{Sound};
 ghost use Rattle.graph.specs.Store.{RowBuffers};
 ghost use Rattle.rules.specs.Ways.{pushBackward};
 ghost use Rattle.watching.specs.Watching.{watchIn};
@@ -37,7 +38,7 @@ pub fn solve_rows<'a>(
 ) -> Counted
     requires { ⌜ RowBuffers n (now starts) (now columns) (now weights) (now «reverse_starts») (now «reverse_columns») (now «reverse_weights») (now nodes)
         × (length (now «out_degrees») ≡ n)
-        × Fits n (now targets) (solveLent (now estimate) (now residual) (now «in_degrees») (now priorities) (now nodes) (now queued) (now visited)) ⌝ }
+        × Fits n (now targets) (solveLent (now estimate) (now residual) (now «in_degrees») (now priorities) (now nodes) (now queued) (now visited)) × Sound settings ⌝ }
     ensures { λ r. ⌜ Settles pushBackward (givenRows reversing n (now (starts .entry)) (now (columns .entry)) (now (weights .entry))
         (backLent (now («reverse_starts» .entry)) (now («reverse_columns» .entry)) (now («reverse_weights» .entry)) (now («out_degrees» .entry))
         (solveLent (now (estimate .entry)) (now (residual .entry)) (now («in_degrees» .entry)) (now (priorities .entry)) (now (nodes .entry)) (now (queued .entry)) (now (visited .entry)))))

@@ -3,6 +3,7 @@ ghost use mathlib.Core.Path.{_≡_};
 ghost use mathlib.Core.List.{[]};
 ghost use lib.ListN.{length};
 ghost use Rattle.refusals.specs.Calls.{outcomeOf};
+ghost use Rattle.refusals.specs.Refusals.{Sound};
 ghost use Rattle.graph.specs.Store.{RowBuffers};
 ghost use Rattle.calls.specs.Lent.{solveLent};
 ghost use Rattle.calls.specs.Outcomes.{givenRows};
@@ -43,7 +44,8 @@ pub fn solve_rows<'a>(
 ) -> f64
     requires { ⌜ RowBuffers n (now starts) (now columns) (now weights) (now «reverse_starts») (now «reverse_columns») (now «reverse_weights») (now nodes)
         × (length (now «out_degrees») ≡ n) × (length (now «forward_estimate») ≡ n) × (length (now «forward_residual») ≡ n)
-        × Fits n [] (solveLent (now «backward_estimate») (now «backward_residual») (now «in_degrees») (now priorities) (now nodes) (now queued) (now visited)) ⌝ }
+        × Fits n [] (solveLent (now «backward_estimate») (now «backward_residual») (now «in_degrees») (now priorities) (now nodes) (now queued) (now visited))
+        × Sound «forward_settings» × Sound «backward_settings» ⌝ }
     ensures { λ r. ⌜ Joins adaptive (givenRows joining n (now (starts .entry)) (now (columns .entry)) (now (weights .entry))
         (bothLent (now («forward_estimate» .entry)) (now («forward_residual» .entry)) (backLent (now («reverse_starts» .entry)) (now («reverse_columns» .entry)) (now («reverse_weights» .entry)) (now («out_degrees» .entry))
         (solveLent (now («backward_estimate» .entry)) (now («backward_residual» .entry)) (now («in_degrees» .entry)) (now (priorities .entry)) (now (nodes .entry)) (now (queued .entry)) (now (visited .entry))))))

@@ -6,7 +6,7 @@ ghost use mathlib.Core.List.{[], _∷_};
 ghost use Prim.Native.Nat.{_+_};
 ghost use lib.ListN.{length, getD};
 ghost use Rattle.numbers.specs.Numbers.{+0};
-ghost use Rattle.refusals.specs.Refusals.{lengthsDiffer};
+ghost use Rattle.refusals.specs.Refusals.{lengthsDiffer, Sound};
 ghost use Rattle.rules.specs.Rules as Rules;
 ghost use Rattle.rules.specs.Answers.{extrapolated};
 ghost use Rattle.watching.specs.Watching.{watchIn};
@@ -192,7 +192,7 @@ pub fn solve_settled<'a>(
     visited: &mut [u64],
 ) -> Counted
     requires { ⌜ Rows (length (now degrees)) backward (listsIn starts columns «reverse_columns» weights «reverse_weights» degrees «out_degrees»)
-        × Fits (length (now degrees)) (now sources) (solveLent (now estimate) (now residual) (now degrees) (now priorities) (now nodes) (now queued) (now visited)) ⌝ }
+        × Fits (length (now degrees)) (now sources) (solveLent (now estimate) (now residual) (now degrees) (now priorities) (now nodes) (now queued) (now visited)) × Sound settings ⌝ }
     ensures { λ r. ⌜ SolveSettled (Stands (length (now (degrees .entry))) backward (lists starts columns «reverse_columns» weights «reverse_weights» degrees «out_degrees»))
         (λ way. Rules.solve way settings (watchIn watch) (length (now (degrees .entry))) (now (sources .entry)))
         (length (now (degrees .entry))) r (now (estimate .exit)) (now (residual .exit)) (now (priorities .exit)) (now (nodes .exit)) (now (queued .exit)) (now (visited .exit)) ⌝ }

@@ -4,7 +4,7 @@ ghost use mathlib.Core.Path.{_≡_};
 ghost use mathlib.Core.List.{List, [], _∷_, _++_};
 ghost use Prim.Native.Nat.{ℕ, _+_, _≤_};
 ghost use lib.ListN.{length};
-ghost use Rattle.refusals.specs.Refusals.{lengthsDiffer, linkTests};
+ghost use Rattle.refusals.specs.Refusals.{lengthsDiffer, Sound, linkTests};
 ghost use Rattle.refusals.specs.Calls.{outcomeOf};
 ghost use Rattle.graph.specs.Store.{Buffers};
 ghost use Rattle.rules.specs.Ways.{pushBackward};
@@ -99,7 +99,7 @@ fn solve_links(
     requires { ⌜ Buffers n (now from) (now to) (now weight) (now starts) (now columns) (now weights) (now nodes)
         × (length (now «reverse_starts») ≡ n + 1) × (length (now «reverse_columns») ≡ length (now from)) × (length (now «reverse_weights») ≡ length (now from))
         × (length (now «out_degrees») ≡ n)
-        × Fits n (now targets) (solveLent (now estimate) (now residual) (now «in_degrees») (now priorities) (now nodes) (now queued) (now visited)) ⌝ }
+        × Fits n (now targets) (solveLent (now estimate) (now residual) (now «in_degrees») (now priorities) (now nodes) (now queued) (now visited)) × Sound settings ⌝ }
     ensures { λ r. ⌜ Settles pushBackward (givenLinks reversing n (now (from .entry)) (now (to .entry)) (now (weight .entry))
         (linksLent (now (starts .entry)) (now (columns .entry)) (now (weights .entry)) (backLent (now («reverse_starts» .entry)) (now («reverse_columns» .entry)) (now («reverse_weights» .entry)) (now («out_degrees» .entry))
         (solveLent (now (estimate .entry)) (now (residual .entry)) (now («in_degrees» .entry)) (now (priorities .entry)) (now (nodes .entry)) (now (queued .entry)) (now (visited .entry))))))

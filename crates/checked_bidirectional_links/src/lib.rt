@@ -4,6 +4,7 @@ ghost use mathlib.Core.Path.{_≡_};
 ghost use mathlib.Core.List.{[]};
 ghost use Prim.Native.Nat.{_+_};
 ghost use lib.ListN.{length};
+ghost use Rattle.refusals.specs.Refusals.{Sound};
 ghost use Rattle.refusals.specs.Calls.{outcomeOf};
 ghost use Rattle.graph.specs.Store.{Buffers};
 ghost use Rattle.calls.specs.Lent.{solveLent, linksLent};
@@ -48,7 +49,8 @@ fn solve_links(
     requires { ⌜ Buffers n (now from) (now to) (now weight) (now starts) (now columns) (now weights) (now nodes)
         × (length (now «reverse_starts») ≡ n + 1) × (length (now «reverse_columns») ≡ length (now from)) × (length (now «reverse_weights») ≡ length (now from))
         × (length (now «out_degrees») ≡ n) × (length (now «forward_estimate») ≡ n) × (length (now «forward_residual») ≡ n)
-        × Fits n [] (solveLent (now «backward_estimate») (now «backward_residual») (now «in_degrees») (now priorities) (now nodes) (now queued) (now visited)) ⌝ }
+        × Fits n [] (solveLent (now «backward_estimate») (now «backward_residual») (now «in_degrees») (now priorities) (now nodes) (now queued) (now visited))
+        × Sound «forward_settings» × Sound «backward_settings» ⌝ }
     ensures { λ r. ⌜ Joins adaptive (givenLinks joining n (now (from .entry)) (now (to .entry)) (now (weight .entry))
         (linksLent (now (starts .entry)) (now (columns .entry)) (now (weights .entry)) (bothLent (now («forward_estimate» .entry)) (now («forward_residual» .entry)) (backLent (now («reverse_starts» .entry)) (now («reverse_columns» .entry)) (now («reverse_weights» .entry)) (now («out_degrees» .entry))
         (solveLent (now («backward_estimate» .entry)) (now («backward_residual» .entry)) (now («in_degrees» .entry)) (now (priorities .entry)) (now (nodes .entry)) (now (queued .entry)) (now (visited .entry)))))))

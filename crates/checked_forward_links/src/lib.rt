@@ -3,7 +3,7 @@ ghost use mathlib.Core.Path.{_≡_};
 ghost use mathlib.Core.List.{[], _∷_};
 ghost use Prim.Native.Nat.{_+_, _≤_};
 ghost use lib.ListN.{length};
-ghost use Rattle.refusals.specs.Refusals.{linkTests};
+ghost use Rattle.refusals.specs.Refusals.{Sound, linkTests};
 ghost use Rattle.refusals.specs.Calls.{outcomeOf};
 ghost use Rattle.graph.specs.Store.{Buffers};
 ghost use Rattle.rules.specs.Ways.{pushForward};
@@ -73,7 +73,7 @@ fn solve_links(
     visited: &mut [u64],
 ) -> Counted
     requires { ⌜ Buffers n (now from) (now to) (now weight) (now starts) (now columns) (now weights) (now nodes)
-        × Fits n (now sources) (solveLent (now estimate) (now residual) (now degrees) (now priorities) (now nodes) (now queued) (now visited)) ⌝ }
+        × Fits n (now sources) (solveLent (now estimate) (now residual) (now degrees) (now priorities) (now nodes) (now queued) (now visited)) × Sound settings ⌝ }
     ensures { λ r. ⌜ Settles pushForward (givenLinks solving n (now (from .entry)) (now (to .entry)) (now (weight .entry)) (linksLent (now (starts .entry)) (now (columns .entry)) (now (weights .entry))
         (solveLent (now (estimate .entry)) (now (residual .entry)) (now (degrees .entry)) (now (priorities .entry)) (now (nodes .entry)) (now (queued .entry)) (now (visited .entry)))))
         settings (watchIn watch) (now (sources .entry)) (outcomeOf r (linksLent (now (starts .exit)) (now (columns .exit)) (now (weights .exit))

@@ -1,5 +1,6 @@
 // A forward solve of lent rows that passed every test, which leaves the workspace cleared.
 ghost use Rattle.refusals.specs.Calls.{outcomeOf};
+ghost use Rattle.refusals.specs.Refusals.{Sound};
 ghost use Rattle.graph.specs.Store.{Rowed};
 ghost use Rattle.rules.specs.Ways.{pushForward};
 ghost use Rattle.watching.specs.Watching.{watchIn};
@@ -28,7 +29,7 @@ pub fn solve_rows<'a>(
     visited: &mut [u64],
 ) -> Counted
     requires { ⌜ Rowed n (now starts) (now columns) (now weights)
-        × Fits n (now sources) (solveLent (now estimate) (now residual) (now degrees) (now priorities) (now nodes) (now queued) (now visited)) ⌝ }
+        × Fits n (now sources) (solveLent (now estimate) (now residual) (now degrees) (now priorities) (now nodes) (now queued) (now visited)) × Sound settings ⌝ }
     ensures { λ r. ⌜ Settles pushForward (givenRows solving n (now (starts .entry)) (now (columns .entry)) (now (weights .entry))
         (solveLent (now (estimate .entry)) (now (residual .entry)) (now (degrees .entry)) (now (priorities .entry)) (now (nodes .entry)) (now (queued .entry)) (now (visited .entry))))
         settings (watchIn watch) (now (sources .entry))

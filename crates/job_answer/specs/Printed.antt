@@ -9,6 +9,7 @@ use lib.Ieee.{Float}
 use Rattle.norm.specs.Norm.{Norm}
 use Rattle.refusals.specs.Refusals.{_or_, _when_, refuseSettings, linkTests}
 use Rattle.refusals.specs.declared.Settings.{Settings}
+use Rattle.refusals.specs.Usual.{usual}
 use Rattle.graph.specs.Rows.{linksOf, rowsOf}
 use Rattle.rules.specs.Ways.{over, pushForward}
 use Rattle.rules.specs.Rules.{State, unwatched, solve}
@@ -19,16 +20,9 @@ use Rattle.job_text.specs.Text.{refusedLine, doneLine, nodeLines, Grown}
 
 -- ---- what is asked for
 
--- three f64 (alpha, epsilon, queue threshold), u32 max_pushes, u32 flags (bit 0 adaptive, others 0)
+-- three f64 (alpha, epsilon, queue threshold), u32 max_pushes, u32 flags (bit 0 adaptive, others 0); the adaptive numbers are the usual ones
 unfoldable pub settingsIn : List ℕ → Settings
-settingsIn bytes =
-    record {
-      alpha = floatAt bytes 24;
-      epsilon = floatAt bytes 32;
-      «queue_threshold» = floatAt bytes 40;
-      «max_pushes» = wordAt bytes 48;
-      «adaptive_threshold» = eqb (wordAt bytes 52) 1;
-    }
+settingsIn bytes = usual (floatAt bytes 24) (floatAt bytes 32) (floatAt bytes 40) (wordAt bytes 48) (eqb (wordAt bytes 52) 1)
 
 -- a forward solve of a list of links, from many sources
 pub record Job : Type 0 where

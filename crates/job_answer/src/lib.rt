@@ -20,13 +20,13 @@ fn settings_in(bytes: &[u8]) -> Settings
     requires { ⌜ 56 ≤ length (now bytes) ⌝ }
     ensures { λ r. ⌜ r ≡ settingsIn (now (bytes .entry)) ⌝ }
 {
-    Settings {
-        alpha: job_fields::float(bytes, 24),
-        epsilon: job_fields::float(bytes, 32),
-        queue_threshold: job_fields::float(bytes, 40),
-        max_pushes: job_fields::word(bytes, 48) as u64,
-        adaptive_threshold: job_fields::word(bytes, 52) == 1,
-    }
+    refusals::usual(
+        job_fields::float(bytes, 24),
+        job_fields::float(bytes, 32),
+        job_fields::float(bytes, 40),
+        job_fields::word(bytes, 48) as u64,
+        job_fields::word(bytes, 52) == 1,
+    )
 }
 
 // Writes what a solve answered and left in its two vectors.

@@ -6,8 +6,9 @@ use Prim.Native.Nat.{ℕ, suc}
 use lib.ListN.{getD, set}
 use lib.Dec.{ltb}
 use lib.Ieee.{Float, lt, le}
-use Rattle.numbers.specs.Numbers.{f64, _⊗_}
+use Rattle.numbers.specs.Numbers.{_⊗_}
 use Rattle.numbers.specs.Choice.{if_then_else_}
+use Rattle.refusals.specs.declared.Settings.{Settings}
 
 -- a node's slot: it is out of the queue, or it waits at a priority. A queue is a list of slots, one for each node
 pub data Slot : Type 0 where
@@ -69,29 +70,9 @@ next slots = bestFrom nobody 0 slots
 
 -- ---- the adaptive threshold
 
--- after how many pushes the threshold adapts, above and below which size of the queue, by which factors, and above which floor it falls
-pub record Adaptive : Type 0 where
-  pub step : ℕ
-  pub upper : ℕ
-  pub lower : ℕ
-  pub raise : Float
-  pub fall : Float
-  pub floor : Float
-
--- the rules' numbers, each the double nearest to what the comment says
-unfoldable pub usual : Adaptive
-usual =
-    record {
-      step = 1000;
-      upper = 10000;
-      lower = 100;
-      raise = f64 0x3ff1_9999_9999_999a;  -- 1.1
-      fall = f64 0x3fec_cccc_cccc_cccd;  -- 0.9
-      floor = f64 0x3d71_9799_812d_ea11;  -- 1e-12
-    }
-
--- the threshold after it adapts to the size of the queue
-unfoldable pub adapted : Adaptive → ℕ → Float → Float
-adapted numbers size threshold =
-    if ltb (numbers .upper) size then threshold ⊗ numbers .raise
-    else (if ltb size (numbers .lower) && lt (numbers .floor) threshold then threshold ⊗ numbers .fall else threshold)
+-- The threshold after it adapts to the size of the queue. Above the upper size it is multiplied by the raising factor; below the lower size, where it is above
+-- the floor, by the lowering factor
+unfoldable pub adapted : Settings → ℕ → Float → Float
+adapted settings size threshold =
+    if ltb (settings .«upper_size») size then threshold ⊗ settings .«raising_factor»
+    else (if ltb size (settings .«lower_size») && lt (settings .«threshold_floor») threshold then threshold ⊗ settings .«lowering_factor» else threshold)

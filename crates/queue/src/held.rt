@@ -3,12 +3,13 @@
 ghost use mathlib.Core.Path.{_≡_};
 ghost use Prim.Native.Nat.{_<_};
 ghost use lib.ListN.{length};
-ghost use Rattle.queue.specs.Waiting.{offered, usual, adapted};
+ghost use Rattle.queue.specs.Waiting.{offered, adapted};
 ghost use Rattle.queue.specs.Heap.{waiting, Heap};
 ghost use Rattle.queue.specs.Promises.{Holds, Removed};
 use crate::Popped;
 use crate::WorkQueue;
 use crate::lent;
+use refusals::Settings;
 
 // Offers the node v at a priority.
 pub fn offer(
@@ -47,10 +48,10 @@ pub fn pop(q: WorkQueue, priorities: &mut [f64], nodes: &mut [u32], marks: &mut 
 
 // Adapts the threshold to the size: a long queue raises it, and a short one lowers it as far as a
 // floor.
-pub fn adapt(q: WorkQueue) -> WorkQueue
-    ensures { λ r. ⌜ (r .threshold ≡ adapted usual (q .size) (q .threshold)) × (r .size ≡ q .size) ⌝ }
+pub fn adapt(q: WorkQueue, settings: Settings) -> WorkQueue
+    ensures { λ r. ⌜ (r .threshold ≡ adapted settings (q .size) (q .threshold)) × (r .size ≡ q .size) ⌝ }
 {
     let mut held = q;
-    lent::adapt(&mut held);
+    lent::adapt(&mut held, settings);
     held
 }

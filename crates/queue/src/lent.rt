@@ -3,10 +3,11 @@
 ghost use mathlib.Core.Path.{_≡_};
 ghost use Prim.Native.Nat.{_<_};
 ghost use lib.ListN.{length};
-ghost use Rattle.queue.specs.Waiting.{offered, usual, adapted};
+ghost use Rattle.queue.specs.Waiting.{offered, adapted};
 ghost use Rattle.queue.specs.Heap.{waiting, Heap};
 ghost use Rattle.queue.specs.Promises.{Holds, Removed};
 use crate::WorkQueue;
+use refusals::Settings;
 
 // Offers the node v at a priority, as `push_if_threshold`.
 pub fn offer(
@@ -42,8 +43,8 @@ pub fn pop(q: &mut WorkQueue, priorities: &mut [f64], nodes: &mut [u32], marks: 
 }
 
 // Adapts the threshold to the size, as `adaptive_threshold`.
-pub fn adapt(q: &mut WorkQueue)
-    ensures { λ _. ⌜ (now (q .exit) .threshold ≡ adapted usual (now (q .entry) .size) (now (q .entry) .threshold)) × (now (q .exit) .size ≡ now (q .entry) .size) ⌝ }
+pub fn adapt(q: &mut WorkQueue, settings: Settings)
+    ensures { λ _. ⌜ (now (q .exit) .threshold ≡ adapted settings (now (q .entry) .size) (now (q .entry) .threshold)) × (now (q .exit) .size ≡ now (q .entry) .size) ⌝ }
 {
-    *q = crate::adaptive_threshold(*q);
+    *q = crate::adaptive_threshold(*q, settings);
 }

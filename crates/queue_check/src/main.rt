@@ -161,7 +161,8 @@ fn perform(
         return pop_and_compare(queue, priorities, nodes, marks, node);
     }
     if what == ADAPT {
-        let queue = queue::held::adapt(queue);
+        let settings = refusals::usual(0.0, 0.0, 0.0, 0, true);
+        let queue = queue::held::adapt(queue, settings);
         return Done {
             queue,
             agrees: true,

@@ -8,13 +8,13 @@ use native.Mathlib.Nat.{not-suc-le-zero, le-of-suc-le-suc}
 use lib.ListN.{length, getD}
 use lib.Ieee.{Float}
 use lib.Dec.{leb, ltb}
-use borrow.Author.Tests.{eqb-true, ltb-false, leb-false, not-false}
+use borrow.Author.Tests.{eqb-true, eqb-false, ltb-false, leb-false, not-false}
 use Rattle.numbers.proofs.NoneOf.{none-at}
 use Rattle.numbers.proofs.Tests.{neither}
 use Rattle.numbers.specs.Numbers.{+0, one}
 use Rattle.numbers.specs.Tables.{any}
 use Rattle.refusals.specs.declared.Settings.{Settings}
-use Rattle.refusals.specs.Refusals.{_or_, _when_, within, wrong, falls, lengthsDiffer, refuseNodes, refuseLinks, refuseListed, refuseLengths, refuseSizes, refuseRows, refuseWeights, refuseAlpha, refuseSettings, linkTests, rowTests}
+use Rattle.refusals.specs.Refusals.{_or_, _when_, within, wrong, falls, lengthsDiffer, refuseNodes, refuseLinks, refuseListed, refuseLengths, refuseSizes, refuseRows, refuseWeights, refuseAlpha, refuseAdaptive, refuseSettings, Sound, linkTests, rowTests}
 use Rattle.refusals.specs.Calls.{Outcome, outcomeOf, byRefusal}
 
 -- ---- the first number
@@ -86,9 +86,19 @@ sized n m s ps h =
     }
 
 -- by its settings: alpha is a part
-pub alpha-within : (s : Settings) → refuseSettings s ≡ 0 → within +0 one (s .alpha) ≡ true
+pub alpha-within : (s : Settings) → Sound s → within +0 one (s .alpha) ≡ true
 unfolding refuseSettings refuseAlpha
 alpha-within s h = not-false _ (when-zero 5 _ (or-zero _ _ h .0))
+
+-- and the step
+pub steps : (s : Settings) → Sound s → 0 < s .«adaptive_step»
+unfolding refuseSettings refuseAdaptive
+steps s h =
+    let floor = neither _ _ (when-zero 5 _ (or-zero _ _ (or-zero _ _ h .1) .1)) in
+    let lowering = neither _ _ (floor .0) in
+    let raising = neither _ _ (lowering .0) in
+    let above = eqb-false (s .«adaptive_step») 0 (neither _ _ (raising .0) .0) in
+    omega (arith, above)
 
 -- no number is below the one before
 steady : (s : List ℕ) → falls s ≡ false → (v : ℕ) → suc v < length s → getD s v 0 ≤ getD s (suc v) 0
@@ -134,6 +144,10 @@ pub rows-passed : (n s : ℕ) (ps : List (ℕ × ℕ)) (starts columns : List �
 rows-passed n s ps starts columns ws e h =
     let a = or-zero _ _ (sym e ∙ h) in
     (sized n (length columns) s ps (a .0), fine n starts columns (or-zero _ _ (a .1) .0))
+
+-- a call with settings, and with tests after those
+pub settings-sound : (tests : ℕ) (s : Settings) (further : ℕ) {r : ℕ} → r ≡ tests or refuseSettings s or further → r ≡ 0 → Sound s × (further ≡ 0)
+settings-sound tests s further e h = or-zero _ _ (or-zero _ _ (sym e ∙ h) .1)
 
 -- ---- the outcome
 

@@ -3,6 +3,7 @@
 use Prim.Native.Nat.{ℕ, zero, suc}
 use mathlib.Core.Bool.{Bool, true, false, not, _&&_, _||_}
 use mathlib.Core.List.{List, [], _∷_}
+use mathlib.Core.Path.{_≡_}
 use lib.ListN.{length, getD}
 use lib.Dec.{ltb, leb, eqb}
 use lib.Ieee.{Float, inf, lt, le}
@@ -82,11 +83,26 @@ refuseWeights ws = 5 when any wrong ws
 unfoldable pub refuseAlpha : Float → ℕ
 refuseAlpha a = 6 when not (within +0 one a)
 
--- 6: the same of the settings; epsilon or queue threshold not finite or below zero; max_pushes above 1,000,000,000
+-- 6, adaptive or not: a step of zero, a lower size above the upper, a factor or floor not finite or below zero
+unfoldable pub refuseAdaptive : Settings → ℕ
+refuseAdaptive s =
+    6 when
+    (eqb (s .«adaptive_step») 0
+    || ltb (s .«upper_size») (s .«lower_size»)
+    || not (amount (s .«raising_factor»))
+    || not (amount (s .«lowering_factor»))
+    || not (amount (s .«threshold_floor»)))
+
+-- 6: alpha of the settings; epsilon or queue threshold not finite or below zero; max_pushes above 1,000,000,000; the adaptive numbers
 unfoldable pub refuseSettings : Settings → ℕ
 refuseSettings s =
     refuseAlpha (s .alpha)
     or 6 when (not (amount (s .epsilon)) || not (amount (s .«queue_threshold»)) || ltb 1000000000 (s .«max_pushes»))
+    or refuseAdaptive s
+
+-- settings that are not refused
+abbrev pub Sound : Settings → Type 0
+Sound s = refuseSettings s ≡ 0
 
 -- 7: a precision not finite or below zero
 unfoldable pub refusePrecision : Float → ℕ

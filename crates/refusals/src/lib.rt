@@ -4,9 +4,12 @@ ghost use mathlib.Core.Path.{_≡_};
 ghost use lib.ListN.{length, getD};
 ghost use lib.Dec.{leb};
 ghost use Rattle.numbers.specs.Tables.{any};
-ghost use Rattle.refusals.specs.Refusals.{_or_, _when_, refuseNodes, refuseLinks, refuseListed, refuseRows, refuseWeights, refuseAlpha, refuseSettings, refusePrecision, amount, wrong, falls, within};
+ghost use Rattle.refusals.specs.Usual.{usual};
+ghost use Rattle.refusals.specs.Refusals.{_or_, _when_, refuseNodes, refuseLinks, refuseListed, refuseRows, refuseWeights, refuseAlpha, refuseAdaptive, refuseSettings, refusePrecision, amount, wrong, falls, within};
 
-// The five settings of a solve.
+// The settings of a solve. Those after the flag are the adaptive numbers: after how many pushes the
+// threshold adapts, above and below which sizes of the queue, by which factors, and the floor above
+// which it falls.
 #[repr(C)]
 pub struct Settings {
     pub alpha: f64,
@@ -14,6 +17,37 @@ pub struct Settings {
     pub queue_threshold: f64,
     pub max_pushes: u64,
     pub adaptive_threshold: bool,
+    pub adaptive_step: u64,
+    pub upper_size: u32,
+    pub lower_size: u32,
+    pub raising_factor: f64,
+    pub lowering_factor: f64,
+    pub threshold_floor: f64,
+}
+
+// Settings with the adaptive numbers that a solve has where nobody chose others.
+pub fn usual(
+    alpha: f64,
+    epsilon: f64,
+    queue_threshold: f64,
+    max_pushes: u64,
+    adaptive_threshold: bool,
+) -> Settings
+    ensures { λ r. ⌜ r ≡ usual alpha epsilon «queue_threshold» «max_pushes» «adaptive_threshold» ⌝ }
+{
+    Settings {
+        alpha,
+        epsilon,
+        queue_threshold,
+        max_pushes,
+        adaptive_threshold,
+        adaptive_step: 1_000,
+        upper_size: 10_000,
+        lower_size: 100,
+        raising_factor: 1.1,
+        lowering_factor: 0.9,
+        threshold_floor: 1e-12,
+    }
 }
 
 // The first of two numbers that is not 0.
@@ -118,17 +152,29 @@ pub fn refuse_alpha(a: f64) -> u32
     when(6, !is_within(0.0, 1.0, a))
 }
 
+// 6: the adaptive numbers of the settings.
+fn refuse_adaptive(s: Settings) -> u32
+    ensures { λ r. ⌜ r ≡ refuseAdaptive s ⌝ }
+{
+    when(
+        6,
+        (s.adaptive_step == 0)
+            | (s.upper_size < s.lower_size)
+            | !is_amount(s.raising_factor)
+            | !is_amount(s.lowering_factor)
+            | !is_amount(s.threshold_floor),
+    )
+}
+
 // 6: the settings of a solve.
 pub fn refuse_settings(s: Settings) -> u32
     ensures { λ r. ⌜ r ≡ refuseSettings s ⌝ }
 {
-    or(
-        refuse_alpha(s.alpha),
-        when(
-            6,
-            !is_amount(s.epsilon) | !is_amount(s.queue_threshold) | (1_000_000_000 < s.max_pushes),
-        ),
-    )
+    let own = when(
+        6,
+        !is_amount(s.epsilon) | !is_amount(s.queue_threshold) | (1_000_000_000 < s.max_pushes),
+    );
+    or(refuse_alpha(s.alpha), or(own, refuse_adaptive(s)))
 }
 
 // 7: a precision.

@@ -2,7 +2,7 @@
 -- given by its bit pattern or by a name for it; the norms and the square roots go by the root's definition. Assumes nothing.
 use Prim.Native.Nat.{ℕ, _^_}
 use mathlib.Core.Bool.{Bool, true, false}
-use mathlib.Core.List.{List, [], _∷_}
+use mathlib.Core.List.{List, [], _∷_, map}
 use mathlib.Core.Path.{_≡_, refl}
 use lib.IntN.{negsuc}
 use lib.Dec.{lit<, lit≤}
@@ -11,12 +11,13 @@ use Rattle.numbers.specs.Numbers.{f64, +0, one}
 use Rattle.numbers.specs.Choice.{if_then_else_}
 use Rattle.numbers.specs.Tables.{tabulate, any}
 use Rattle.refusals.specs.declared.Settings.{Settings}
+use Rattle.refusals.specs.Usual.{usual}
 use Rattle.norm.specs.SquareRoot.{Root}
 use Rattle.norm.specs.Norm.{Norm, addSquares}
 use Rattle.norm.proofs.Examples as Roots
 use Rattle.marks.specs.Marks.{howMany}
 use Rattle.graph.specs.Rows.{Link, link, kept, gives, rowOf, rowsOf, sumFrom, degree, into, intoFrom, transposed}
-use Rattle.queue.specs.Waiting.{out, taken, answer, offered, better, bestFrom, next, usual, adapted}
+use Rattle.queue.specs.Waiting.{out, taken, answer, offered, better, bestFrom, next, adapted}
 use Rattle.rules.specs.Ways.{pushForward, pushBackward, effective, transition, shareOf, wayOf, over, overLinks, degreeOf}
 use Rattle.rules.specs.Rules.{each, State, Watch, unwatched, watched, blank, queued, gain, absorb, thresholdAfter, counted, offer, pass, handOut, push, stops, goesOn, due, skips, visit, turn, onward, run}
 use Rattle.rules.specs.Rules.{inside, watchable, begun, start, enough, solve}
@@ -62,8 +63,7 @@ three-halves = f64 0x3ff8_0000_0000_0000
 
 -- settings that are not adaptive
 abbrev set-to : Float → Float → Float → ℕ → Settings
-set-to alpha epsilon threshold max =
-    record { alpha = alpha; epsilon = epsilon; «queue_threshold» = threshold; «max_pushes» = max; «adaptive_threshold» = false }
+set-to alpha epsilon threshold max = usual alpha epsilon threshold max false
 
 -- the settings of the cases, with the most pushes
 abbrev usually : ℕ → Settings
@@ -71,11 +71,32 @@ usually max = set-to half quarter quarter max
 
 -- settings that are adaptive
 abbrev adaptive : Settings
-adaptive = record { alpha = half; epsilon = quarter; «queue_threshold» = quarter; «max_pushes» = 2000; «adaptive_threshold» = true }
+adaptive = usual half quarter quarter 2000 true
+
+-- settings by whether they are adaptive, by epsilon, and by step, upper and lower size, raising and lowering factor, floor
+abbrev adapting : Bool → Float → ℕ → ℕ → ℕ → Float → Float → Float → Settings
+adapting adaptive epsilon step upper lower raising lowering floor =
+    record {
+      alpha = half;
+      epsilon = epsilon;
+      «queue_threshold» = quarter;
+      «max_pushes» = 10;
+      «adaptive_threshold» = adaptive;
+      «adaptive_step» = step;
+      «upper_size» = upper;
+      «lower_size» = lower;
+      «raising_factor» = raising;
+      «lowering_factor» = lowering;
+      «threshold_floor» = floor;
+    }
 
 -- a state of one node after so many pushes
 abbrev after : ℕ → State
 after pushes = record { estimate = +0 ∷ []; residual = +0 ∷ []; slots = out ∷ []; threshold = quarter; pushes = pushes; visited = true ∷ [] }
+
+-- the thresholds after one push more than 5, 6, 12 and 13
+abbrev stepping : Settings → List Float
+stepping settings = map (λ (pushes : ℕ). counted settings 0 (after pushes) .threshold) (5 ∷ 6 ∷ 12 ∷ 13 ∷ [])
 
 -- a link 0→1
 abbrev chain : Float → List Link
@@ -221,6 +242,13 @@ pub record Worked : Type 0 where
   -- the threshold adapts at the thousandth push, and not before: × 0.9, since nobody waits
   pub adapts : counted adaptive 0 (after 999) .threshold ≡ f64 0x3fcc_cccc_cccc_cccd
   pub adapts-not : counted adaptive 0 (after 998) .threshold ≡ quarter
+  -- with a step of 7 it adapts at the seventh and the fourteenth push, with a step of 1 at each, and with another mode at none
+  pub adapts-by-sevens : stepping (adapting true quarter 7 1 1 two half +0) ≡ quarter ∷ eighth ∷ quarter ∷ eighth ∷ []
+  pub adapts-each-time : stepping (adapting true quarter 1 1 1 two half +0) ≡ eighth ∷ eighth ∷ eighth ∷ eighth ∷ []
+  pub adapts-never : stepping (adapting false quarter 1 1 1 two half +0) ≡ quarter ∷ quarter ∷ quarter ∷ quarter ∷ []
+  -- P1, and after each push the threshold is halved: 1/8, 1/16 and so on lets node 1 in until epsilon skips it; a floor of 1/8 ends that after one
+  pub falls-freely : shown (solved pushForward 2 (chain one) (adapting true sixty-fourth 1 2 2 two half +0) (0 ∷ [])) ≡ ending 7 2 (half ∷ f64 0x3fdf_8000_0000_0000 ∷ []) (+0 ∷ f64 0x3f80_0000_0000_0000 ∷ [])
+  pub falls-to-the-floor : shown (solved pushForward 2 (chain one) (adapting true sixty-fourth 1 2 2 two half eighth) (0 ∷ [])) ≡ ending 4 2 (half ∷ f64 0x3fdc_0000_0000_0000 ∷ []) (+0 ∷ f64 0x3fb0_0000_0000_0000 ∷ [])
   -- the statement for the stop: with pushes left nothing is due, though something is left over at node 1: 1/8, which is below both bars (P1), 1/2 below an
   -- epsilon of 3/4 alone (P6), and 1/2 below a threshold of 3/4 alone
   pub stop-below-both : stopping pushForward 2 (chain one) (usually 10) unwatched (0 ∷ []) ≡ stop 3 (+0 ∷ eighth ∷ []) (false ∷ false ∷ [])
@@ -237,6 +265,8 @@ pub record Worked : Type 0 where
   pub due-without-pushes : stopping pushForward 3 (fork one one) (usually 2) unwatched (0 ∷ []) ≡ stop 2 (+0 ∷ quarter ∷ eighth ∷ []) (false ∷ true ∷ false ∷ [])
   -- the early stop leaves 1/2 at node 1
   pub due-when-watched : stopping pushForward 2 (chain one) (usually 10) (watched 0 quarter) (0 ∷ []) ≡ stop 1 (+0 ∷ half ∷ []) (false ∷ true ∷ [])
+  -- the threshold rises to 1 after the first push, which keeps node 1 out with 1/4, though that is at both bars of the settings
+  pub due-when-adaptive : stopping pushForward 2 (chain one) (adapting true quarter 1 0 0 (f64 0x4010_0000_0000_0000) half +0) unwatched (0 ∷ []) ≡ stop 2 (+0 ∷ quarter ∷ []) (false ∷ true ∷ [])
   -- epsilon and threshold are 0, and a residual of +0 is at least both bars
   pub due-at-epsilon-zero : stopping pushForward 2 (chain one) (set-to one +0 +0 10) unwatched (0 ∷ []) ≡ stop 2 (+0 ∷ +0 ∷ []) (true ∷ true ∷ [])
   -- epsilon is above 0 and no binary64: 2^-2000 times 1 is rounded to 0
@@ -299,6 +329,11 @@ worked =
       unwatchable = refl;
       adapts = refl;
       adapts-not = refl;
+      adapts-by-sevens = refl;
+      adapts-each-time = refl;
+      adapts-never = refl;
+      falls-freely = refl;
+      falls-to-the-floor = refl;
       stop-below-both = refl;
       stop-below-epsilon = refl;
       stop-below-threshold = refl;
@@ -309,6 +344,7 @@ worked =
       usually-steady = record { binary = refl; above = refl; adapts-not = refl };
       due-without-pushes = refl;
       due-when-watched = refl;
+      due-when-adaptive = refl;
       due-at-epsilon-zero = refl;
       no-binary = refl;
       due-at-no-binary = refl;

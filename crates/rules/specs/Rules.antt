@@ -11,7 +11,7 @@ use Rattle.numbers.specs.Numbers.{f64, +0, one, _⊕_, _⊖_, _⊗_, _⊘_}
 use Rattle.numbers.specs.Choice.{if_then_else_}
 use Rattle.refusals.specs.declared.Settings.{Settings}
 use Rattle.graph.specs.Rows.{Entry}
-use Rattle.queue.specs.Waiting.{Slot, out, taken, offered, Best, nobody, best, next, usual, adapted}
+use Rattle.queue.specs.Waiting.{Slot, out, taken, offered, Best, nobody, best, next, adapted}
 use Rattle.rules.specs.Ways.{Way, degreeOf, effectiveOf}
 
 -- what stands at v
@@ -78,9 +78,10 @@ absorb alpha v s =
       visited = s .visited;
     }
 
--- the threshold after so many pushes, at a size of the queue: in adaptive mode it adapts after every so many
-unfoldable pub thresholdAfter : Bool → ℕ → ℕ → Float → Float
-thresholdAfter adaptive pushes size threshold = if adaptive && eqb (pushes % usual .step) 0 then adapted usual size threshold else threshold
+-- the threshold after so many pushes, at a size of the queue: in adaptive mode it adapts after every step
+unfoldable pub thresholdAfter : Settings → ℕ → ℕ → Float → Float
+thresholdAfter settings pushes size threshold =
+    if settings .«adaptive_threshold» && eqb (pushes % settings .«adaptive_step») 0 then adapted settings size threshold else threshold
 
 -- a push of v is counted and v is marked, and the threshold may adapt
 unfoldable pub counted : Settings → ℕ → State → State
@@ -89,7 +90,7 @@ counted settings v s =
       estimate = s .estimate;
       residual = s .residual;
       slots = s .slots;
-      threshold = thresholdAfter (settings .«adaptive_threshold») (suc (s .pushes)) (taken (s .slots)) (s .threshold);
+      threshold = thresholdAfter settings (suc (s .pushes)) (taken (s .slots)) (s .threshold);
       pushes = suc (s .pushes);
       visited = set (s .visited) v true;
     }

@@ -3,6 +3,7 @@
 ghost use mathlib.Core.Path.{_≡_};
 ghost use Prim.Native.Nat.{_≤_};
 ghost use lib.ListN.{length};
+ghost use Rattle.refusals.specs.Refusals.{Sound};
 ghost use Rattle.rules.specs.Rules as Rules;
 ghost use Rattle.watching.specs.Watching.{watchIn};
 ghost use Rattle.pushes.specs.States.{holdingIn, holdingBefore, holdingAfter};
@@ -56,7 +57,7 @@ fn run<'a>(
     visited: &mut [u64],
 ) -> Progress
     requires { ⌜ Ready (length (now degrees)) backward (listsIn starts columns «reverse_columns» weights «reverse_weights» degrees «out_degrees»)
-        (holdingIn p estimate residual priorities nodes queued visited) ⌝ }
+        (holdingIn p estimate residual priorities nodes queued visited) × Sound settings ⌝ }
     ensures { λ r. ⌜ Ran (Stands (length (now (degrees .entry))) backward (lists starts columns «reverse_columns» weights «reverse_weights» degrees «out_degrees»)) settings (watchIn watch)
         (length (now (degrees .entry))) (holdingBefore p estimate residual priorities nodes queued visited) (holdingAfter r estimate residual priorities nodes queued visited) ⌝ }
 {
@@ -106,7 +107,7 @@ pub fn solve<'a>(
     visited: &mut [u64],
 ) -> Progress
     requires { ⌜ Rows (length (now degrees)) backward (listsIn starts columns «reverse_columns» weights «reverse_weights» degrees «out_degrees»)
-        × Room (length (now degrees)) (now estimate) (now residual) (now priorities) (now nodes) (now queued) (now visited) × (length (now sources) ≤ 65536) ⌝ }
+        × Room (length (now degrees)) (now estimate) (now residual) (now priorities) (now nodes) (now queued) (now visited) × (length (now sources) ≤ 65536) × Sound settings ⌝ }
     ensures { λ r. ⌜ LeavesState (Stands (length (now (degrees .entry))) backward (lists starts columns «reverse_columns» weights «reverse_weights» degrees «out_degrees»))
         (λ way. Rules.solve way settings (watchIn watch) (length (now (degrees .entry))) (now (sources .entry)))
         (length (now (degrees .entry))) (holdingAfter r estimate residual priorities nodes queued visited) ⌝ }

@@ -29,7 +29,7 @@ marks-beyond n v words words′ w h u l = w .elsewhere u (λ e. omega arith)
 
 -- a push of v was counted
 pub counted-state : (settings : Settings) (n v : ℕ) (h : Holding) (q : WorkQueue) (vs : List ℕ) → Heap (h .p .queue .size) (h .priorities) (h .nodes) (h .queued)
-    → Adapted (settings .«adaptive_threshold») (h .p .pushes + 1) (h .p .queue) q → WithMark true (h .visited) vs v → v < n
+    → Adapted settings (h .p .pushes + 1) (h .p .queue) q → WithMark true (h .visited) vs v → v < n
     → stateOf n (holding (progress q (h .p .pushes + 1)) (h .estimate) (h .residual) (h .priorities) (h .nodes) (h .queued) vs) ≡ counted settings v (stateOf n h)
 unfolding stateOf stateIn counted
 counted-state settings n v h q vs y a m l = rw (marks-set n v (h .visited) vs m l, a .same-size, a .threshold-is, add-one, y .count)

@@ -2,7 +2,6 @@
 -- What the functions ensure: the state after is a rule's of the state before, for every way that is meant. What a function does not touch is quantified.
 -- Assumes nothing.
 use Prim.Native.Nat.{ℕ}
-use mathlib.Core.Bool.{Bool}
 use mathlib.Core.Path.{_≡_}
 use lib.Ieee.{Float}
 use Rattle.refusals.specs.declared.Settings.{Settings}
@@ -20,8 +19,8 @@ pub record Visited (meant : Way → Type 0) (f : Way → State → State) (n : �
   pub beyond : SameBeyond n (h .visited) (h′ .visited)
 
 -- the threshold is the one after so many pushes
-pub record Adapted (adaptive : Bool) (pushes : ℕ) (q q′ : WorkQueue) : Type 0 where
-  pub threshold-is : q′ .threshold ≡ thresholdAfter adaptive pushes (q .size) (q .threshold)
+pub record Adapted (settings : Settings) (pushes : ℕ) (q q′ : WorkQueue) : Type 0 where
+  pub threshold-is : q′ .threshold ≡ thresholdAfter settings pushes (q .size) (q .threshold)
   pub same-size : q′ .size ≡ q .size
 
 -- the node that was next left the queue and was visited

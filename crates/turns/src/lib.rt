@@ -2,6 +2,7 @@
 // or pushed. A promise says that the state that the buffers stand for is moved as the rules say; `backward` is the direction.
 ghost use Prim.Native.Nat.{_<_};
 ghost use lib.ListN.{length};
+ghost use Rattle.refusals.specs.Refusals.{Sound};
 ghost use Rattle.rules.specs.Rules as Rules;
 ghost use Rattle.pushes.specs.States.{holdingIn, holdingBefore, holdingAfter};
 ghost use Rattle.pushes.specs.Buffers.{listsIn, lists, Ready};
@@ -11,15 +12,13 @@ use pushes::Progress;
 use queue::WorkQueue;
 use refusals::Settings;
 
-// After how many pushes the threshold adapts.
-const STEP: u64 = 1_000;
-
 // The queue after so many pushes.
-fn adapt(adaptive: bool, pushes: u64, q: WorkQueue) -> WorkQueue
-    ensures { λ r. ⌜ Adapted adaptive pushes q r ⌝ }
+fn adapt(settings: Settings, pushes: u64, q: WorkQueue) -> WorkQueue
+    requires { ⌜ Sound settings ⌝ }
+    ensures { λ r. ⌜ Adapted settings pushes q r ⌝ }
 {
-    if adaptive & (pushes % STEP == 0) {
-        queue::held::adapt(q)
+    if settings.adaptive_threshold && pushes % settings.adaptive_step == 0 {
+        queue::held::adapt(q, settings)
     } else {
         q
     }
@@ -47,7 +46,7 @@ fn visit<'a>(
     visited: &mut [u64],
 ) -> Progress
     requires { ⌜ Ready (length (now degrees)) backward (listsIn starts columns «reverse_columns» weights «reverse_weights» degrees «out_degrees»)
-        (holdingIn p estimate residual priorities nodes queued visited) × (v < length (now degrees)) × (p .pushes < settings .«max_pushes») ⌝ }
+        (holdingIn p estimate residual priorities nodes queued visited) × (v < length (now degrees)) × (p .pushes < settings .«max_pushes») × Sound settings ⌝ }
     ensures { λ r. ⌜ Visited (Stands (length (now (degrees .entry))) backward (lists starts columns «reverse_columns» weights «reverse_weights» degrees «out_degrees»))
         (λ way. Rules.visit way settings v) (length (now (degrees .entry)))
         (holdingBefore p estimate residual priorities nodes queued visited) (holdingAfter r estimate residual priorities nodes queued visited) ⌝ }
@@ -77,7 +76,7 @@ fn visit<'a>(
     );
     marks::mark(visited, v);
     let pushes = p.pushes + 1;
-    let queue = adapt(settings.adaptive_threshold, pushes, pushed);
+    let queue = adapt(settings, pushes, pushed);
     Progress { queue, pushes }
 }
 
@@ -101,7 +100,7 @@ pub fn turn<'a>(
     visited: &mut [u64],
 ) -> Progress
     requires { ⌜ Ready (length (now degrees)) backward (listsIn starts columns «reverse_columns» weights «reverse_weights» degrees «out_degrees»)
-        (holdingIn p estimate residual priorities nodes queued visited) × (0 < p .queue .size) × (p .pushes < settings .«max_pushes») ⌝ }
+        (holdingIn p estimate residual priorities nodes queued visited) × (0 < p .queue .size) × (p .pushes < settings .«max_pushes») × Sound settings ⌝ }
     ensures { λ r. ⌜ Turned (Stands (length (now (degrees .entry))) backward (lists starts columns «reverse_columns» weights «reverse_weights» degrees «out_degrees»)) settings
         (length (now (degrees .entry))) (holdingBefore p estimate residual priorities nodes queued visited) (holdingAfter r estimate residual priorities nodes queued visited) ⌝ }
 {

@@ -5,6 +5,7 @@ use mathlib.Core.Path.{_≡_}
 use mathlib.Core.List.{List}
 use denote.Ref.{now}
 use Rattle.refusals.specs.Refusals.{_or_, lengthsDiffer, refuseSettings}
+use Rattle.refusals.proofs.Laws.{settings-sound}
 use Rattle.calls.specs.Lent.{besides, solveLent, linksLent}
 use Rattle.calls.specs.Outcomes.{givenLinks}
 use Rattle.calls.proofs.Leaving.{call-refused, call-done}
@@ -47,11 +48,14 @@ solve-links-requires c κs =
     let s = c .before .before .before .before .before .before .before .before .before .before .before .before .before .before .before .before .before .before .before .before .before .before .before .before .before .before .before .before .before .before .before .before .before .before .before .before .before in
     let a = s .args in
     let t = failing (a .other) in
-    let q = links-asked (besides t reversing) (a .listed) _ _ _ _ _ _ (number (c .before .before .before .before .before .before .before .before .before .before .before .before .before .before .before) t (failing-differ (a .other))) (c .before .before .before .before .before .before .before .before .before .before .before .before .before .before .if1 .left) in
+    let number-is = number (c .before .before .before .before .before .before .before .before .before .before .before .before .before .before .before) t (failing-differ (a .other)) in
+    let zero = c .before .before .before .before .before .before .before .before .before .before .before .before .before .before .if1 .left in
+    let q = links-asked (besides t reversing) (a .listed) _ _ _ _ _ _ number-is zero in
+    let w = settings-sound _ _ _ number-is zero in
     let z = sized-behind t _ (q .1) in
     let l = z .long in
     let f = fits _ _ (s .pre) (record { nodes = z .nodes; links = z .links; listed = z .listed; long = l .1 .1 .1 .1 }) in
-    (q .0 _ (f .room .paired), l .0, l .1 .0, l .1 .1 .0, l .1 .1 .1 .0, f)
+    (q .0 _ (f .room .paired), l .0, l .1 .0, l .1 .1 .0, l .1 .1 .1 .0, f, w .0)
 
 same-length : tie.Need-same-length
 same-length c = c .before .before .before .before .before .before .before .before .before .before .before .before .before .before .before .before .before .before .before .before .before .before .before .before .before .before .before .before .solve-links .kept .1 .1 .1 .1 .1 .1 .1 .0

@@ -19,7 +19,7 @@ solve-rows-requires c κs =
     let p = c .before .before .before .before .before .before .before .before .before .before .before .before .before .before .before .before .before .before .before .before .before .before .before .before .before .before .before .before .before .before .before .before .before .before .before .before .before .before .before .before .before .before .before .before .before .pre in
     let b = c .before .before .before .before .before .before .before .before .before .before .before .before .before .before .before .before .before .before .before .before .before .before .build-rows in
     let f = fits-nodes (p .5) (b .kept .1 .1 .1 .1 .1 .1 .1 .0) in
-    (made-turnable (p .0) (b .ensures) (b .kept .1 .1 .1 .1 .1 .0) (p .1) (p .2) (p .3) (f .room .paired), p .4, f)
+    (made-turnable (p .0) (b .ensures) (b .kept .1 .1 .1 .1 .1 .0) (p .1) (p .2) (p .3) (f .room .paired), p .4, f, p .6)
 
 clear-requires : tie.Need-clear-requires
 clear-requires c κs = search needs

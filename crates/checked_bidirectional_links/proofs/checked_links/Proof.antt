@@ -6,6 +6,7 @@ use native.Mathlib.Omega.{arith}
 use denote.Ref.{now}
 use lib.ListN.{length}
 use Rattle.refusals.specs.Refusals.{_or_, refuseSettings}
+use Rattle.refusals.proofs.Laws.{settings-sound}
 use Rattle.calls.specs.Lent.{solveLent, linksLent}
 use Rattle.calls.specs.Outcomes.{givenLinks}
 use Rattle.calls.proofs.Lengths.{two-besides}
@@ -52,11 +53,14 @@ returns c = answer-refused _ _ _ _ _ _ (number (c .before)) (c .if1 .taken)
 
 solve-links-requires : tie.Need-solve-links-requires
 solve-links-requires c κs =
-    let q = links-asked joining 0 _ _ _ _ _ _ (number (c .before .before .before .before .before .before .before .before .before .before .before .before .before .before .before .before .before)) (c .before .before .before .before .before .before .before .before .before .before .before .before .before .before .before .before .if1 .left) in
+    let number-is = number (c .before .before .before .before .before .before .before .before .before .before .before .before .before .before .before .before .before) in
+    let zero = c .before .before .before .before .before .before .before .before .before .before .before .before .before .before .before .before .if1 .left in
+    let q = links-asked joining 0 _ _ _ _ _ _ number-is zero in
+    let w = settings-sound _ _ _ number-is zero in
     let z = q .1 in
     let l = z .long in
     let f = fits [] _ (λ _. omega arith) (record { nodes = z .nodes; links = z .links; listed = z .listed; long = l .1 .1 .1 .1 .1 .1 }) in
-    (q .0 _ (f .room .paired), l .1 .1 .0, l .1 .1 .1 .0, l .1 .1 .1 .1 .0, l .1 .1 .1 .1 .1 .0, l .0, l .1 .0, f)
+    (q .0 _ (f .room .paired), l .1 .1 .0, l .1 .1 .1 .0, l .1 .1 .1 .1 .0, l .1 .1 .1 .1 .1 .0, l .0, l .1 .0, f, w .0, w .1)
 
 same-length : tie.Need-same-length
 same-length c = c .before .before .before .before .before .before .before .before .before .before .before .before .before .before .before .before .before .before .before .before .before .before .before .before .before .before .before .before .before .before .before .before .solve-links .kept .1 .1 .1 .1 .1 .1 .1 .1 .1 .0

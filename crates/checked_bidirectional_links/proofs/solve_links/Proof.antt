@@ -16,7 +16,7 @@ solve-rows-requires c κs =
     let p = c .before .before .before .before .before .before .before .before .before .before .before .before .before .before .before .before .before .before .before .before .before .before .before .before .before .before .before .before .before .before .before .before .before .before .before .before .before .before .before .before .before .before .before .before .before .before .before .before .pre in
     let b = c .before .before .before .before .before .before .before .before .before .before .before .before .before .before .before .before .before .before .before .before .before .before .before .before .build-rows in
     let f = fits-nodes (p .7) (b .kept .1 .1 .1 .1 .1 .1 .1 .0) in
-    (made-turnable (p .0) (b .ensures) (b .kept .1 .1 .1 .1 .1 .0) (p .1) (p .2) (p .3) (f .room .paired), p .4, p .5, p .6, f)
+    (made-turnable (p .0) (b .ensures) (b .kept .1 .1 .1 .1 .1 .0) (p .1) (p .2) (p .3) (f .room .paired), p .4, p .5, p .6, f, p .8, p .9)
 
 clear-requires : tie.Need-clear-requires
 clear-requires c κs = search needs

@@ -18,7 +18,7 @@ solve-rows-requires : tie.Need-solve-rows-requires
 solve-rows-requires c κs =
     let p = c .before .before .before .before .before .before .before .before .before .before .before .before .before .before .before .before .before .before .before .before .before .before .before .before .before .before .before .before .before .before .before .before .before .before .before .before .before .pre in
     let b = c .before .before .before .before .before .before .before .before .before .before .before .before .before .before .before .before .before .before .build-rows in
-    (held-rowed (b .ensures .held), fits-nodes (p .1) (b .kept .1 .1 .1 .1 .1 .1 .1 .0))
+    (held-rowed (b .ensures .held), fits-nodes (p .1) (b .kept .1 .1 .1 .1 .1 .1 .1 .0), p .2)
 
 clear-requires : tie.Need-clear-requires
 clear-requires c κs = search needs

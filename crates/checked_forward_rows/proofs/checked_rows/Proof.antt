@@ -2,6 +2,7 @@
 use mathlib.Core.Path.{_≡_}
 use denote.Ref.{now}
 use Rattle.refusals.specs.Refusals.{_or_, refuseSettings}
+use Rattle.refusals.proofs.Laws.{settings-sound}
 use Rattle.calls.specs.Lent.{solveLent, solving}
 use Rattle.calls.specs.Outcomes.{givenRows}
 use Rattle.calls.proofs.Leaving.{call-refused, call-done}
@@ -39,8 +40,11 @@ returns c = call-refused (number (c .before)) (c .if1 .taken)
 solve-rows-requires : tie.Need-solve-rows-requires
 solve-rows-requires c κs =
     let s = c .before .before .before .before .before .before .before .before .before .before .before .before .before .before .before .before .before .before .before .before .before .before .before in
-    let q = rows-asked solving (s .args .listed) _ _ _ _ _ _ (number (c .before .before .before .before .before .before .before .before)) (c .before .before .before .before .before .before .before .if1 .left) in
-    (q .0, fits _ _ (s .pre) (q .1))
+    let number-is = number (c .before .before .before .before .before .before .before .before) in
+    let zero = c .before .before .before .before .before .before .before .if1 .left in
+    let q = rows-asked solving (s .args .listed) _ _ _ _ _ _ number-is zero in
+    let w = settings-sound _ _ _ number-is zero in
+    (q .0, fits _ _ (s .pre) (q .1), w .0)
 
 same-length : tie.Need-same-length
 same-length c = c .before .before .before .before .before .before .before .before .before .before .before .before .before .before .solve-rows .kept .1 .1 .1 .1 .1 .1 .1 .0

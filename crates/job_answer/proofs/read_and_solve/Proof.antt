@@ -57,7 +57,7 @@ solve-links-requires c κs =
     ((omega (arith, c .before .before .before .before .before .before .word .ensures, s .few-nodes), record { to-long = c .before .before .before .before .before .before .before .before .before .before .before .before .before .before .before .before .before .read-words2 .kept .1 .1 .1 .0 ∙ q .0 .1 .to-long ∙ sym from; weight-long = c .before .before .before .before .before .before .before .before .before .before .before .before .before .read-floats .kept .1 .1 .1 .0 ∙ q .0 .1 .weight-long ∙ sym from }, q .0 .2), omega (arith, from, q .1 .0, s .few-links))
 
 same-length : tie.Need-same-length
-same-length c = search needs
+same-length c = c .before .before .before .before .before .before .before .before .before .before .before .before .before .before .before .before .before .before .before .before .before .before .before .before .read-words .kept .1 .1 .1 .0
 
 same-length-2 : tie.Need-same-length-2
 same-length-2 c = search needs

@@ -33,11 +33,14 @@ same-length-6 c = search needs
 returns-2 : tie.Need-returns-2
 returns-2 c = search needs
 
+usual-requires : tie.Need-usual-requires
+usual-requires c κs = search needs
+
 adapt-requires : tie.Need-adapt-requires
 adapt-requires c κs = search needs
 
 returns-3 : tie.Need-returns-3
-returns-3 c = rw (c .adapt .ensures .1) (c .before .before .before .before .before .before .before .pre .0)
+returns-3 c = rw (c .adapt .ensures .1) (c .before .before .before .before .before .before .before .before .pre .0)
 
 returns-4 : tie.Need-returns-4
 returns-4 c = search needs
@@ -56,6 +59,7 @@ perform-spec =
     same-length-5
     same-length-6
     returns-2
+    usual-requires
     adapt-requires
     returns-3
     returns-4)

@@ -21,7 +21,7 @@ abbrev μ-loop : tie.MeasureT-loop
 μ-loop settings backward watch starts columns reverse-columns weights reverse-weights degrees out-degrees estimate₀ residual₀ priorities₀ nodes₀ queued₀ visited₀ w₀ estimate residual priorities nodes queued visited w = measure settings (stateOf (length degrees) (holding w estimate residual priorities nodes queued visited))
 
 loop-holds : tie.Need-loop-holds Inv-loop μ-loop
-loop-holds c = record { ready = c .before .before .before .before .before .before .before .before .before .before .before .before .before .pre; same-queued = refl; same-visited = refl; beyond = λ u h. refl; left = λ way st. refl }
+loop-holds c = record { ready = c .before .before .before .before .before .before .before .before .before .before .before .before .before .pre .0; same-queued = refl; same-visited = refl; beyond = λ u h. refl; left = λ way st. refl }
 
 goes-on-requires : tie.Need-goes-on-requires Inv-loop μ-loop
 goes-on-requires c κs =
@@ -31,11 +31,12 @@ goes-on-requires c κs =
 turn-requires : tie.Need-turn-requires Inv-loop μ-loop
 unfolding stateOf stateIn
 turn-requires c κs =
-    let a = c .before .before .before .before .before .before .before .before .before .before .before .before .before .before .before .before .before .before .before .before .before .before .before .before .args in
+    let s = c .before .before .before .before .before .before .before .before .before .before .before .before .before .before .before .before .before .before .before .before .before .before .before .before in
+    let a = s .args in
     let l = c .before .before .before .before .before .before .before .before .before .before .loop in
     let g = going (a .settings) (watchIn (a .watch)) _ (l .w .queue .size)
     (sym (c .before .before .before .before .before .before .before .goes-on .ensures (length (now (a .degrees))) (l .priorities) (l .nodes) (l .visited)) ∙ c .before .before .before .before .before .before .if1 .taken) in
-    (l .inv .ready, g .1, g .0)
+    (l .inv .ready, g .1, g .0, s .pre .1)
 
 loop-less : tie.Need-loop-less Inv-loop μ-loop
 unfolding stateOf stateIn
@@ -78,16 +79,16 @@ loop-again c =
     }
 
 same-length : tie.Need-same-length Inv-loop μ-loop
-same-length c = omega (arith, c .before .before .before .before .loop .inv .ready, c .before .before .before .before .before .before .before .before .before .before .before .before .before .before .before .before .before .before .pre)
+same-length c = omega (arith, c .before .before .before .before .loop .inv .ready, c .before .before .before .before .before .before .before .before .before .before .before .before .before .before .before .before .before .before .pre .0)
 
 same-length-2 : tie.Need-same-length-2 Inv-loop μ-loop
-same-length-2 c = omega (arith, c .before .before .before .before .loop .inv .ready, c .before .before .before .before .before .before .before .before .before .before .before .before .before .before .before .before .before .before .pre)
+same-length-2 c = omega (arith, c .before .before .before .before .loop .inv .ready, c .before .before .before .before .before .before .before .before .before .before .before .before .before .before .before .before .before .before .pre .0)
 
 same-length-3 : tie.Need-same-length-3 Inv-loop μ-loop
-same-length-3 c = omega (arith, c .before .before .before .before .loop .inv .ready, c .before .before .before .before .before .before .before .before .before .before .before .before .before .before .before .before .before .before .pre)
+same-length-3 c = omega (arith, c .before .before .before .before .loop .inv .ready, c .before .before .before .before .before .before .before .before .before .before .before .before .before .before .before .before .before .before .pre .0)
 
 same-length-4 : tie.Need-same-length-4 Inv-loop μ-loop
-same-length-4 c = omega (arith, c .before .before .before .before .loop .inv .ready, c .before .before .before .before .before .before .before .before .before .before .before .before .before .before .before .before .before .before .pre)
+same-length-4 c = omega (arith, c .before .before .before .before .loop .inv .ready, c .before .before .before .before .before .before .before .before .before .before .before .before .before .before .before .before .before .before .pre .0)
 
 same-length-5 : tie.Need-same-length-5 Inv-loop μ-loop
 same-length-5 c = c .before .before .before .before .loop .inv .same-queued

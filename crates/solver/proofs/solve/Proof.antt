@@ -15,13 +15,15 @@ start-requires c κs = search needs
 run-requires : tie.Need-run-requires
 run-requires c κs =
     let p = c .before .before .before .before .before .before .before .before .before .before .before .before .before .before .before .before .before .before .before .before .before .before .before .before .before .before .before .before .before .before .before .before .before .before .before .before .before .before .before .pre in
-    let t = c .before .before .before .before .before .before .before .before .before .before .before .before .before .before .before .before .before .before .start in
-    record {
-      rows = p .0;
-      lent = t .ensures .lent;
-      estimate-long = t .kept .1 .1 .1 .1 .0 ∙ p .1 .estimate-long;
-      visited-room = rw (t .kept .1 .1 .1 .1 .1 .1 .1 .1 .1 .0) (p .1 .visited-room);
-    }
+    let t = c .before .before .before .before .before .before .before .before .before .before .before .before .before .before .before .before .before .before .start in (
+      record {
+        rows = p .0;
+        lent = t .ensures .lent;
+        estimate-long = t .kept .1 .1 .1 .1 .0 ∙ p .1 .estimate-long;
+        visited-room = rw (t .kept .1 .1 .1 .1 .1 .1 .1 .1 .1 .0) (p .1 .visited-room);
+      },
+      p .3,
+    )
 
 same-length : tie.Need-same-length
 same-length c = search needs

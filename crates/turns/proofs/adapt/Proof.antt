@@ -1,22 +1,49 @@
--- `turns::adapt` meets its contract. Assumes nothing.
-use mathlib.Core.Path.{refl}
+-- `turns::adapt` meets its contract: each return is the definition's case by the tests that led there. Assumes nothing.
+use Prim.Native.Nat.{ℕ, _%_}
+use mathlib.Core.Bool.{true, false, _&&_}
+use mathlib.Core.Logic.{⊎-elim}
+use mathlib.Core.Path.{_≡_, refl, _∙_}
+use lib.Dec.{eqb}
+use lib.Ieee.{Float}
 use Rattle.numbers.specs.Choice.{if_then_else_}
-use Rattle.queue.specs.Waiting.{usual}
+use Rattle.refusals.specs.declared.Settings.{Settings}
+use Rattle.refusals.proofs.Laws.{steps}
+use Rattle.queue.specs.Waiting.{adapted}
 use Rattle.rules.specs.Rules.{thresholdAfter}
 use borrow.Author.Needs.{needs}
 use Rattle.turns.proofs.adapt.Statement.{statement}
 use Rattle.turns.proofs.adapt.Tie as tie
 
+-- the definition's two cases
+module _ (settings : Settings) (pushes size : ℕ) (threshold : Float) where
+  adapts : settings .«adaptive_threshold» && eqb (pushes % settings .«adaptive_step») 0 ≡ true → adapted settings size threshold ≡ thresholdAfter settings pushes size threshold
+  unfolding thresholdAfter if_then_else_
+  adapts e = rw e
+
+  stays : settings .«adaptive_threshold» && eqb (pushes % settings .«adaptive_step») 0 ≡ false → threshold ≡ thresholdAfter settings pushes size threshold
+  unfolding thresholdAfter if_then_else_
+  stays e = rw e
+
+rem-if2 : tie.Need-rem-if2
+rem-if2 c = steps _ (c .before .before .pre)
+
 adapt-requires : tie.Need-adapt-requires
 adapt-requires c κs = search needs
 
 returns : tie.Need-returns
-unfolding thresholdAfter if_then_else_ usual
-returns c = record { threshold-is = rw (c .before .if1 .taken) (c .adapt .ensures .0); same-size = c .adapt .ensures .1 }
+returns c =
+    let a = c .before .before .before .before .args in
+    record {
+      threshold-is = c .adapt .ensures .0 ∙ adapts (a .settings) (a .pushes) (a .q .size) (a .q .threshold) (rw (c .before .before .before .if1 .taken) (c .before .if2 .taken));
+      same-size = c .adapt .ensures .1;
+    }
 
 returns-2 : tie.Need-returns-2
-unfolding thresholdAfter if_then_else_ usual
-returns-2 c = record { threshold-is = rw (c .if1 .left); same-size = refl }
+returns-2 c =
+    let a = c .before .args in
+    let rest = stays (a .settings) (a .pushes) (a .q .size) (a .q .threshold) in
+    ⊎-elim (λ w. record { threshold-is = rest (rw (w .0 .taken) (w .2 .left)); same-size = refl })
+    (λ w. record { threshold-is = rest (rw (w .left)); same-size = refl }) (c .if1 .came)
 
 pub adapt-spec : {M : Type 1} → statement M
-adapt-spec = tie.close (tie.spec adapt-requires returns returns-2)
+adapt-spec = tie.close (tie.spec rem-if2 adapt-requires returns returns-2)

@@ -28,6 +28,7 @@ visit-requires c κs =
       },
       rw (y .lent .wide) at (o .ensures .1 .inside),
       s .pre .2,
+      s .pre .3,
     )
 
 same-length : tie.Need-same-length

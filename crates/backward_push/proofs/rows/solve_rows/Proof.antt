@@ -18,7 +18,7 @@ solve-settled-requires c κs =
     let p = c .before .before .before .before .before .before .before .before .before .before .before .before .before .before .before .before .before .before .before .before .before .before .before .before .before .before .before .before .before .before .before .before .before .before .before .before .before .before .before .before .before .before .before .before .before .pre in
     let t = c .before .before .before .before .before .before .before .before .before .before .before .before .before .before .before .before .before .before .before .before .before .before .before .reverse in
     let z = directed-backward (p .0 .rowed) (t .ensures) (t .kept .1 .1 .1 .1 .1 .0 ∙ p .0 .columns-long) (t .kept .1 .1 .1 .1 .1 .1 .0 ∙ p .0 .weights-long) in
-    (rows-ready z, fits-still z (fits-nodes (p .2) (t .kept .1 .1 .1 .1 .1 .1 .1 .1 .1 .0)))
+    (rows-ready z, fits-still z (fits-nodes (p .2) (t .kept .1 .1 .1 .1 .1 .1 .1 .1 .1 .0)), p .3)
 
 clear-requires : tie.Need-clear-requires
 clear-requires c κs = search needs

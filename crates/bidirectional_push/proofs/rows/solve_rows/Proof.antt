@@ -26,7 +26,7 @@ solve-settled-requires : tie.Need-solve-settled-requires
 solve-settled-requires c κs =
     let p = c .before .before .before .before .before .before .before .before .before .before .before .before .before .before .before .before .before .before .before .before .before .before .before .before .before .before .before .before .before .before .before .before .before .before .before .before .before .before .before .before .before .before .before .before .before .before .before .before .before .pre in
     let z = directed-forward (p .0 .rowed) (c .before .before .before .before .before .before .before .before .before .before .before .before .before .before .before .before .before .before .before .before .before .before .before .before .before .before .reverse .ensures .out-degrees-are) (c .before .before .before .before .before .before .before .before .before .before .before .before .before .before .before .before .before .before .before .before .before .before .before .before .before .before .reverse .kept .1 .1 .1 .1 .1 .0 ∙ p .0 .columns-long) (c .before .before .before .before .before .before .before .before .before .before .before .before .before .before .before .before .before .before .before .before .before .before .before .before .before .before .reverse .kept .1 .1 .1 .1 .1 .1 .0 ∙ p .0 .weights-long ∙ sym (p .0 .rowed .paired)) in
-    (rows-ready z, fits-still z {lent = now (c .before .before .before .before .before .before .before .before .before .before .before .before .before .before .before .before .before .before .before .before .before .before .before .before .before .before .before .before .before .before .before .before .before .before .before .before .before .before .before .before .before .before .before .before .before .before .before .before .before .args .in-degrees)} (fits-again (p .4) (rw (c .before .before .before .before .before .before .before .before .before .list-if-used .ensures) (few-listed _ _)) (p .2) (p .3) (p .4 .degrees-long) refl (c .before .before .before .before .before .before .before .before .before .before .before .before .before .before .before .before .before .before .before .before .before .before .before .before .before .before .reverse .kept .1 .1 .1 .1 .1 .1 .1 .1 .1 .0) refl refl))
+    (rows-ready z, fits-still z {lent = now (c .before .before .before .before .before .before .before .before .before .before .before .before .before .before .before .before .before .before .before .before .before .before .before .before .before .before .before .before .before .before .before .before .before .before .before .before .before .before .before .before .before .before .before .before .before .before .before .before .before .args .in-degrees)} (fits-again (p .4) (rw (c .before .before .before .before .before .before .before .before .before .list-if-used .ensures) (few-listed _ _)) (p .2) (p .3) (p .4 .degrees-long) refl (c .before .before .before .before .before .before .before .before .before .before .before .before .before .before .before .before .before .before .before .before .before .before .before .before .before .before .reverse .kept .1 .1 .1 .1 .1 .1 .1 .1 .1 .0) refl refl), p .5)
 
 slice-aggregate-list-if-used-2 : tie.Need-slice-aggregate-list-if-used-2
 slice-aggregate-list-if-used-2 c = search needs
@@ -40,7 +40,7 @@ solve-settled-requires-2 c κs =
     let s = c .before .before .before .before .before .before .before .before .before .before .before .before .before .before .before .before .before .before .before .before .before .before .before .before .before .solve-settled in
     let z = directed-backward (p .0 .rowed) (c .before .before .before .before .before .before .before .before .before .before .before .before .before .before .before .before .before .before .before .before .before .before .before .before .before .before .before .before .before .before .before .before .before .before .before .before .before .before .before .before .before .before .before .before .before .before .before .before .before .before .before .before .reverse .ensures) (c .before .before .before .before .before .before .before .before .before .before .before .before .before .before .before .before .before .before .before .before .before .before .before .before .before .before .before .before .before .before .before .before .before .before .before .before .before .before .before .before .before .before .before .before .before .before .before .before .before .before .before .before .reverse .kept .1 .1 .1 .1 .1 .0 ∙ p .0 .columns-long) (c .before .before .before .before .before .before .before .before .before .before .before .before .before .before .before .before .before .before .before .before .before .before .before .before .before .before .before .before .before .before .before .before .before .before .before .before .before .before .before .before .before .before .before .before .before .before .before .before .before .before .before .before .reverse .kept .1 .1 .1 .1 .1 .1 .0 ∙ p .0 .weights-long) in
     let r = p .4 .room in
-    (rows-ready z, fits-still z {lent = now (c .before .before .before .before .before .before .before .before .before .before .before .before .before .before .before .before .before .before .before .before .before .before .before .before .before .before .before .before .before .before .before .before .before .before .before .before .before .before .before .before .before .before .before .before .before .before .before .before .before .before .before .before .before .before .before .before .before .before .before .before .before .before .before .before .before .before .before .before .before .before .before .before .before .before .before .args .in-degrees)} (fits-again (p .4) (rw (c .before .before .before .before .before .before .before .before .before .before .before .list-if-used2 .ensures) (few-listed _ _)) (r .estimate-long) (r .residual-long) (p .4 .degrees-long) (s .kept .1 .1 .1 .1 .1 .1 .1 .1 .1 .1 .1 .1 .1 .0) (s .kept .1 .1 .1 .1 .1 .1 .1 .1 .1 .1 .1 .1 .1 .1 .0 ∙ c .before .before .before .before .before .before .before .before .before .before .before .before .before .before .before .before .before .before .before .before .before .before .before .before .before .before .before .before .before .before .before .before .before .before .before .before .before .before .before .before .before .before .before .before .before .before .before .before .before .before .before .before .reverse .kept .1 .1 .1 .1 .1 .1 .1 .1 .1 .0) (s .kept .1 .1 .1 .1 .1 .1 .1 .1 .1 .1 .1 .1 .1 .1 .1 .0) (s .kept .1 .1 .1 .1 .1 .1 .1 .1 .1 .1 .1 .1 .1 .1 .1 .1 .0)))
+    (rows-ready z, fits-still z {lent = now (c .before .before .before .before .before .before .before .before .before .before .before .before .before .before .before .before .before .before .before .before .before .before .before .before .before .before .before .before .before .before .before .before .before .before .before .before .before .before .before .before .before .before .before .before .before .before .before .before .before .before .before .before .before .before .before .before .before .before .before .before .before .before .before .before .before .before .before .before .before .before .before .before .before .before .before .args .in-degrees)} (fits-again (p .4) (rw (c .before .before .before .before .before .before .before .before .before .before .before .list-if-used2 .ensures) (few-listed _ _)) (r .estimate-long) (r .residual-long) (p .4 .degrees-long) (s .kept .1 .1 .1 .1 .1 .1 .1 .1 .1 .1 .1 .1 .1 .0) (s .kept .1 .1 .1 .1 .1 .1 .1 .1 .1 .1 .1 .1 .1 .1 .0 ∙ c .before .before .before .before .before .before .before .before .before .before .before .before .before .before .before .before .before .before .before .before .before .before .before .before .before .before .before .before .before .before .before .before .before .before .before .before .before .before .before .before .before .before .before .before .before .before .before .before .before .before .before .before .reverse .kept .1 .1 .1 .1 .1 .1 .1 .1 .1 .0) (s .kept .1 .1 .1 .1 .1 .1 .1 .1 .1 .1 .1 .1 .1 .1 .1 .0) (s .kept .1 .1 .1 .1 .1 .1 .1 .1 .1 .1 .1 .1 .1 .1 .1 .1 .0)), p .6)
 
 clear-requires : tie.Need-clear-requires
 clear-requires c κs = search needs

@@ -17,7 +17,7 @@ solve-settled-requires c κs =
     let p = c .before .before .before .before .before .before .before .before .before .before .before .before .before .before .before .before .before .before .before .before .before .before .pre in
     let e = c .before .before .before .before .before .before .before .before .before .sum-rows .ensures in
     let z = directed-forward (p .0) (rw (p .1 .degrees-long) at e) refl refl in
-    (rows-ready z, fits-still z (p .1))
+    (rows-ready z, fits-still z (p .1), p .2)
 
 clear-floats-requires : tie.Need-clear-floats-requires
 clear-floats-requires c κs = search needs
