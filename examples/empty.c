@@ -6,7 +6,12 @@
 
 int main(void) {
     const uint32_t sources[] = {1};
-    const struct talwighest_settings settings = {0.5, 0.25, 0.25, 10, false};
+    struct talwighest_settings settings = TALWIGHEST_DEFAULT_SETTINGS;
+    settings.alpha = 0.5;
+    settings.epsilon = 0.25;
+    settings.queue_threshold = 0.25;
+    settings.max_pushes = 10;
+    settings.adaptive_threshold = false;
     double estimate[2], residual[2], degrees[2], priorities[2];
     uint32_t starts[3], nodes[2];
     uint64_t queued[1], visited[1];

@@ -66,7 +66,12 @@ int main(void) {
     const double residual[] = {3.0, 4.0};
     printf("root %.6f, norm %g\n", talwighest_square_root(2.0), talwighest_compute_residual_norm(residual, 2));
 
-    const struct talwighest_settings settings = {0.5, 0.25, 2.0, 10, false};
+    struct talwighest_settings settings = TALWIGHEST_DEFAULT_SETTINGS;
+    settings.alpha = 0.5;
+    settings.epsilon = 0.25;
+    settings.queue_threshold = 2.0;
+    settings.max_pushes = 10;
+    settings.adaptive_threshold = false;
     double estimate[3], left[3], priorities[3];
     uint32_t nodes[3];
     uint64_t queued[1], visited[1];

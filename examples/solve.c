@@ -9,7 +9,7 @@ int main(void) {
     const uint32_t to[] = {1, 2, 1, 2};
     const double weight[] = {1.0, 3.0, 1.0, 1.0};
     const uint32_t sources[] = {0};
-    const struct talwighest_settings settings = {0.15, 1e-6, 1e-8, 1000000, true};
+    const struct talwighest_settings settings = TALWIGHEST_DEFAULT_SETTINGS;
     double estimate[4], residual[4], weights[4], degrees[4], priorities[4];
     uint32_t starts[5], columns[4], nodes[4];
     uint64_t queued[1], visited[1];

@@ -62,10 +62,10 @@
 #include <stdint.h>
 
 /* CHANGELOG.md, in the repository, says what each version changed. */
-#define TALWIGHEST_VERSION "0.3.1"
+#define TALWIGHEST_VERSION "0.4.0"
 #define TALWIGHEST_VERSION_MAJOR 0
-#define TALWIGHEST_VERSION_MINOR 3
-#define TALWIGHEST_VERSION_PATCH 1
+#define TALWIGHEST_VERSION_MINOR 4
+#define TALWIGHEST_VERSION_PATCH 0
 
 #ifdef __cplusplus
 extern "C" {
@@ -82,8 +82,10 @@ enum talwighest_refusal {
                                          column is not below n */
     TALWIGHEST_UNSOUND_WEIGHT = 5,    /* a weight is a NaN, infinite, below zero or above 1,048,576, even if its link is
                                          dropped */
-    TALWIGHEST_UNSOUND_SETTINGS = 6,  /* alpha is not from 0 to 1, epsilon or queue_threshold is not finite or is below zero,
-                                         or max_pushes is above 1,000,000,000 */
+    TALWIGHEST_UNSOUND_SETTINGS = 6,  /* alpha is not from 0 to 1, epsilon or queue_threshold is not finite or is below zero, or
+                                         max_pushes is above 1,000,000,000. Or, even if adaptive_threshold is 0: adaptive_step
+                                         is 0, lower_size is above upper_size, or raising_factor, lowering_factor or
+                                         threshold_floor is not finite or is below zero */
     TALWIGHEST_UNSOUND_PRECISION = 7  /* target_precision or source_precision is not finite or is below zero */
 };
 
@@ -98,8 +100,21 @@ struct talwighest_settings {
     double epsilon;          /* a node that leaves the queue is not pushed if its remainder is now below epsilon * d */
     double queue_threshold;  /* a node enters the queue only if its priority is at least queue_threshold */
     uint64_t max_pushes;     /* the solve ends after this many pushes, or earlier if the queue is empty */
-    bool adaptive_threshold; /* whether queue_threshold rises and falls with the size of the queue. Must hold 0 or 1 */
+    bool adaptive_threshold; /* whether the threshold, which starts at queue_threshold, adapts to the number of nodes that
+                                wait. Must hold 0 or 1 */
+    uint64_t adaptive_step;  /* it adapts after every so many pushes */
+    uint32_t upper_size;     /* if more nodes than this wait, it is multiplied by raising_factor */
+    uint32_t lower_size;     /* if fewer nodes than this wait and it is above threshold_floor, it is multiplied by
+                                lowering_factor */
+    double raising_factor;
+    double lowering_factor;
+    double threshold_floor;
 };
+
+/* The settings of the Rust that the library is compared with, to start from. Change what you need:
+     struct talwighest_settings settings = TALWIGHEST_DEFAULT_SETTINGS;
+     settings.alpha = 0.5; */
+#define TALWIGHEST_DEFAULT_SETTINGS {0.15, 1e-6, 1e-8, 1000000, true, 1000, 10000, 100, 1.1, 0.9, 1e-12}
 
 /* What a solve returns. */
 struct talwighest_solved {

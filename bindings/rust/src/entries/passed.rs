@@ -1,6 +1,7 @@
 //! What the calls of the solvers are given, what they are lent to write, and what they return.
 
-/// The settings of a solve, which are passed by value.
+/// The settings of a solve, which are passed by value. With an adaptive threshold, the six numbers after the flag say when and how
+/// it adapts.
 #[repr(C)]
 #[derive(Clone, Copy, Debug)]
 pub struct Settings {
@@ -9,6 +10,38 @@ pub struct Settings {
     pub queue_threshold: f64,
     pub max_pushes: u64,
     pub adaptive_threshold: bool,
+    /// After each so many pushes the threshold adapts.
+    pub adaptive_step: u64,
+    /// If more nodes than this wait, it is multiplied by `raising_factor`.
+    pub upper_size: u32,
+    /// If fewer nodes than this wait, and it is above `threshold_floor`, it is multiplied by `lowering_factor`.
+    pub lower_size: u32,
+    pub raising_factor: f64,
+    pub lowering_factor: f64,
+    pub threshold_floor: f64,
+}
+
+impl Settings {
+    /// The settings that the Rust has where none are given.
+    pub const DEFAULT: Self = Self {
+        alpha: 0.15,
+        epsilon: 1e-6,
+        queue_threshold: 1e-8,
+        max_pushes: 1_000_000,
+        adaptive_threshold: true,
+        adaptive_step: 1_000,
+        upper_size: 10_000,
+        lower_size: 100,
+        raising_factor: 1.1,
+        lowering_factor: 0.9,
+        threshold_floor: 1e-12,
+    };
+}
+
+impl Default for Settings {
+    fn default() -> Self {
+        Self::DEFAULT
+    }
 }
 
 /// What a solve returns: the refusal number, 0 where it is done, the counts, and the norm of the residual.
