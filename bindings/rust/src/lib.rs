@@ -12,10 +12,3 @@ pub use answers::{Joined, Matrix, OwnedRows, Query, Reachability, Solution};
 pub use entries::{compute_residual_norm, square_root, Links, Rows, Settings};
 pub use graph::{combine_with_forward, extrapolated_solution};
 pub use refusal::Refusal;
-
-impl Default for Settings {
-    /// The settings that the Rust has where none are given.
-    fn default() -> Self {
-        Self { alpha: 0.15, epsilon: 1e-6, queue_threshold: 1e-8, max_pushes: 1_000_000, adaptive_threshold: true }
-    }
-}

@@ -16,7 +16,8 @@ pub enum Refusal {
     UnsoundRows = 4,
     /// A weight, of a dropped link too, is a NaN, infinite, below zero or above 1,048,576.
     UnsoundWeight = 5,
-    /// Alpha is not in 0 to 1, epsilon or queue_threshold is not finite or below zero, or max_pushes is above 1,000,000,000.
+    /// Alpha is not in 0 to 1, max_pushes is above 1,000,000,000, adaptive_step is 0, lower_size is above upper_size, or epsilon,
+    /// queue_threshold, raising_factor, lowering_factor or threshold_floor is not finite or below zero.
     UnsoundSettings = 6,
     /// A precision is not finite or below zero.
     UnsoundPrecision = 7,
@@ -56,7 +57,8 @@ impl Display for Refusal {
             Self::UnsoundRows => "the starts of rows are not in order, or a column is not a node",
             Self::UnsoundWeight => "a weight is not from 0 to 1,048,576",
             Self::UnsoundSettings => {
-                "alpha is not from 0 to 1, epsilon or queue_threshold is not from 0 up, or max_pushes is above 1,000,000,000"
+                "alpha is not from 0 to 1, max_pushes is above 1,000,000,000, adaptive_step is 0, lower_size is above upper_size, \
+                 or another setting is not from 0 up"
             }
             Self::UnsoundPrecision => "a precision is not from 0 up",
         };

@@ -95,6 +95,64 @@ fn six_unsound_settings() {
     assert_eq!(extrapolated_solution(&[0.0], &[0.0], -0.5).err(), Some(Refusal::UnsoundSettings));
 }
 
+/// What puts a number into one place of a record.
+type Put = fn(&mut Settings, f64);
+
+/// The places of the two factors and of the floor.
+const AMOUNTS: [Put; 3] = [
+    |settings, number| settings.raising_factor = number,
+    |settings, number| settings.lowering_factor = number,
+    |settings, number| settings.threshold_floor = number,
+];
+
+/// The default settings, with a threshold that adapts or not, after a change.
+fn changed(adaptive_threshold: bool, change: impl Fn(&mut Settings)) -> Settings {
+    let mut settings = Settings { adaptive_threshold, ..Settings::default() };
+    change(&mut settings);
+    settings
+}
+
+#[test]
+fn six_unsound_adaptive_numbers() {
+    for adaptive in [true, false] {
+        let refused = |change: &dyn Fn(&mut Settings)| {
+            all_refuse(LINKS, ROWS, changed(adaptive, change), Refusal::UnsoundSettings);
+        };
+        refused(&|settings| settings.adaptive_step = 0);
+        refused(&|settings| settings.upper_size = 99);
+        refused(&|settings| settings.lower_size = 10_001);
+        refused(&|settings| (settings.upper_size, settings.lower_size) = (0, u32::MAX));
+        for put in AMOUNTS {
+            for number in [-5e-324, -1.0, f64::INFINITY, f64::NEG_INFINITY, f64::NAN] {
+                refused(&|settings| put(settings, number));
+            }
+        }
+    }
+}
+
+#[test]
+fn edges_of_the_adaptive_numbers() {
+    for adaptive in [true, false] {
+        let passes = |change: &dyn Fn(&mut Settings)| {
+            let (settings, sound) = (changed(adaptive, change), Settings::default());
+            assert!(LINKS.solve_single_source(0, settings).is_ok(), "{settings:?}");
+            assert!(ROWS.solve_single_target(1, settings).is_ok(), "{settings:?}");
+            assert!(LINKS.solve_bidirectional(0, 1, settings, sound).is_ok(), "{settings:?}");
+            assert!(ROWS.adaptive_solve(0, 1, sound, settings).is_ok(), "{settings:?}");
+        };
+        passes(&|settings| settings.adaptive_step = 1);
+        passes(&|settings| settings.adaptive_step = u64::MAX);
+        for size in [0, 1, 100, u32::MAX] {
+            passes(&|settings| (settings.upper_size, settings.lower_size) = (size, size));
+        }
+        for put in AMOUNTS {
+            for number in [0.0, -0.0, 5e-324, f64::MAX] {
+                passes(&|settings| put(settings, number));
+            }
+        }
+    }
+}
+
 #[test]
 fn seven_an_unsound_precision() {
     for precision in [-1.0, f64::NAN, f64::INFINITY] {

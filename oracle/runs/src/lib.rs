@@ -11,5 +11,4 @@ pub mod patterns;
 pub mod pointers;
 pub mod random;
 pub mod recorded;
-pub mod settings;
 pub mod timing;

@@ -3,7 +3,14 @@ use talwighest::{Links, Rows, Settings, Solution};
 
 /// Alpha, epsilon and threshold of the cases, and at most so many pushes.
 pub fn settings(max_pushes: u64) -> Settings {
-    Settings { alpha: 0.5, epsilon: 0.25, queue_threshold: 0.25, max_pushes, adaptive_threshold: false }
+    Settings {
+        alpha: 0.5,
+        epsilon: 0.25,
+        queue_threshold: 0.25,
+        max_pushes,
+        adaptive_threshold: false,
+        ..Settings::default()
+    }
 }
 
 pub const CHAIN: Links = Links { n: 2, from: &[0], to: &[1], weight: &[1.0] };

@@ -2,21 +2,29 @@
 //! docs/DIFFERENCES.md has. The gate holds the two together.
 use runs::calls::call::{Call, Wish};
 use runs::calls::entry::{Entry, Form, Question, Solver, Task};
+use runs::calls::extended::{Run, Theirs};
 use runs::calls::given;
 use runs::calls::lending::Slice;
 use runs::calls::make::{make, Read};
 use runs::calls::outcome::Returned;
 use runs::calls::shape::Kind;
-use runs::calls::theirs::{Run, Theirs};
 use runs::entries::{Built, Found, Scored, Settings, Solved, Weighed};
 use std::panic::{catch_unwind, set_hook};
 
 const FORWARD: Solver = Solver::Forward;
 /// Those of the chain in docs/RULES.md.
-const SETTINGS: Settings =
-    Settings { alpha: 0.5, epsilon: 0.25, queue_threshold: 0.25, max_pushes: 10, adaptive_threshold: false };
+const SETTINGS: Settings = Settings {
+    alpha: 0.5,
+    epsilon: 0.25,
+    queue_threshold: 0.25,
+    max_pushes: 10,
+    adaptive_threshold: false,
+    ..Settings::DEFAULT
+};
 /// Every node is queued, and every node that is popped is pushed.
 const ALL_PUSHED: Settings = Settings { epsilon: 0.0, queue_threshold: 0.0, max_pushes: 2, ..SETTINGS };
+/// Every node that is popped is pushed, and the threshold adapts each time.
+const ADAPTING: Settings = Settings { epsilon: 0.0, adaptive_threshold: true, adaptive_step: 1, ..SETTINGS };
 
 fn main() {
     // The text of a panic goes into the table, and not to standard error besides.
@@ -27,6 +35,7 @@ fn main() {
     rows();
     weights();
     settings();
+    adaptive_numbers();
     precisions();
 }
 
@@ -70,6 +79,25 @@ fn settings() {
         show(&format!("threshold {queue_threshold}, epsilon 0"), &chain(settings));
     }
     show("max_pushes 1,000,000,001", &chain(Settings { max_pushes: 1_000_000_001, ..SETTINGS }));
+}
+
+fn adaptive_numbers() {
+    let adaptive = "adaptive, epsilon 0";
+    show(&format!("{adaptive}, step 0"), &chain(Settings { adaptive_step: 0, ..ADAPTING }));
+    let sizes = Settings { upper_size: 0, lower_size: 1, ..ADAPTING };
+    show(&format!("{adaptive}, step 1, upper size 0, lower size 1"), &chain(sizes));
+    for raising_factor in [-1.0, f64::NAN, f64::INFINITY] {
+        let settings = Settings { raising_factor, upper_size: 0, lower_size: 0, ..ADAPTING };
+        show(&format!("{adaptive}, step 1, sizes 0, raising factor {raising_factor}"), &chain(settings));
+    }
+    for lowering_factor in [-1.0, f64::NAN, f64::INFINITY] {
+        let settings = Settings { lowering_factor, ..ADAPTING };
+        show(&format!("{adaptive}, step 1, lowering factor {lowering_factor}"), &chain(settings));
+    }
+    for threshold_floor in [-1.0, f64::NAN, f64::INFINITY] {
+        let settings = Settings { threshold_floor, lowering_factor: 0.5, ..ADAPTING };
+        show(&format!("{adaptive}, step 1, lowering factor 0.5, floor {threshold_floor}"), &chain(settings));
+    }
 }
 
 fn precisions() {

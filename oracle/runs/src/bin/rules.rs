@@ -1,13 +1,14 @@
-//! Writes what the repaired Rust answers on seeded small graphs as a crate of equations between the push rules and
+//! Writes what the extended Rust answers on seeded small graphs as a crate of equations between the push rules and
 //! those answers, numbers as bit patterns, and with them where a push is still due after each solve. Where the prover
 //! admits the crate, computing the rules gave the same.
 //!
 //! `rules FOLDER`, or `rules FOLDER planted`, which writes one graph alone, and one answer of it wrong
-use repaired::graph::PushGraph;
-use repaired::solver::backward_push::{BackwardPushSolver, BidirectionalPushSolver};
-use repaired::solver::forward_push::ForwardPushSolver;
+use extended::adaptions;
+use extended::graph::PushGraph;
+use extended::solver::backward_push::{BackwardPushSolver, BidirectionalPushSolver};
+use extended::solver::forward_push::ForwardPushSolver;
+use runs::calls::extended::{backward_config, forward_config, Run};
 use runs::calls::left;
-use runs::calls::theirs::Run;
 use runs::entries::Settings;
 use runs::random::Random;
 use std::fmt::Write as _;
@@ -16,8 +17,12 @@ use std::{env, fs};
 
 const GRAPHS: u64 = 40;
 
+/// What becomes of some threshold, as `adaptions` names it.
+const ADAPTIONS: [&str; 6] =
+    ["raised", "lowered", "kept by the floor", "kept by both sizes", "turned to zero", "again from zero"];
+
 const HEADER: &str = "\
--- What the repaired Rust answers on seeded small graphs, as equations with the rules. Made by oracle/rules.
+-- What the Rust answers on seeded small graphs, as equations with the rules. Made by oracle/rules.
 use Prim.Native.Nat.{ℕ}
 use mathlib.Core.Bool.{true, false}
 use mathlib.Core.List.{List, [], _∷_}
@@ -31,7 +36,7 @@ use Rattle.refusals.specs.declared.Settings.{Settings}
 use Rattle.norm.specs.Norm.{Norm, addSquares}
 use Rattle.marks.specs.Marks.{howMany}
 use Rattle.graph.specs.Rows.{Link, link, kept, gives, rowOf, rowsOf, sumFrom, degree, into, intoFrom, transposed}
-use Rattle.queue.specs.Waiting.{waits, taken, answer, offered, better, bestFrom, next, usual, adapted}
+use Rattle.queue.specs.Waiting.{waits, taken, answer, offered, better, bestFrom, next, adapted}
 use Rattle.rules.specs.Ways.{pushForward, pushBackward, effective, transition, shareOf, wayOf, over, overLinks, degreeOf}
 use Rattle.rules.specs.Rules.{each, State, unwatched, watched, blank, queued, gain, absorb, thresholdAfter, counted, offer, pass, handOut, push}
 use Rattle.rules.specs.Rules.{stops, goesOn, due, skips, visit, turn, onward, run, inside, watchable, begun, start, enough, solve}
@@ -48,7 +53,7 @@ shown s = ending (s .pushes) (visitedCount s) (s .estimate) (s .residual)
 ";
 
 const UNFOLDING: &str = "unfolding if_then_else_ tabulate howMany kept gives rowOf rowsOf sumFrom degree into intoFrom \
-transposed taken answer offered better bestFrom next usual adapted effective transition shareOf wayOf over degreeOf each \
+transposed taken answer offered better bestFrom next adapted effective transition shareOf wayOf over degreeOf each \
 blank queued gain absorb thresholdAfter counted offer pass handOut push stops goesOn due skips visit turn onward run \
 inside watchable begun start enough solve stillDue visitedCount scoreAt extrapolated combined byDegrees methodAmong method answerBy \
 addSquares ofBits ofInt add sub mul div lt le odd";
@@ -58,8 +63,9 @@ fn listed(items: impl IntoIterator<Item = String>) -> String {
     items.into_iter().map(|item| item + " ∷ ").collect::<String>() + "[]"
 }
 
-/// A number by its bit pattern.
+/// A number by its bit pattern. No answer is a NaN, of which the prover's arithmetic has one alone.
 fn bits(x: f64) -> String {
+    assert!(!x.is_nan(), "a number");
     format!("f64 0x{:016x}", x.to_bits())
 }
 
@@ -139,18 +145,36 @@ struct Given {
     backward: Settings,
 }
 
-fn settings(random: &mut Random) -> Settings {
+/// Settings; with a threshold that adapts after few pushes and at small sizes, or with the default adaptive numbers.
+fn settings(random: &mut Random, adapting: bool) -> Settings {
     let unit = random.unit();
-    Settings {
+    let settings = Settings {
         alpha: random.one_of(&[0.0, 0.15, 0.5, unit, unit, 1.0]),
         epsilon: random.one_of(&[0.0, 1e-6, 0.01, 0.1, 0.25]),
         max_pushes: random.below(21),
         queue_threshold: random.one_of(&[0.0, 1e-8, 0.01, 0.1, 0.25]),
         adaptive_threshold: random.below(2) == 0,
+        ..Settings::DEFAULT
+    };
+    if !adapting {
+        return settings;
+    }
+    const FACTORS: [f64; 5] = [0.0, 0.5, 0.9, 1.1, 2.0];
+    let lower_size = random.below(4) as u32;
+    Settings {
+        queue_threshold: random.one_of(&[0.0, 1e-8, 0.01, 0.1, 0.1, 0.25]),
+        adaptive_threshold: true,
+        adaptive_step: 1 + random.below(4),
+        upper_size: lower_size + random.below(3) as u32,
+        lower_size,
+        raising_factor: random.one_of(&FACTORS),
+        lowering_factor: random.one_of(&FACTORS),
+        threshold_floor: random.one_of(&[0.0, 0.0, 0.01, 0.05, 0.5]),
+        ..settings
     }
 }
 
-fn small(random: &mut Random) -> Given {
+fn small(random: &mut Random, adapting: bool) -> Given {
     let n = 1 + random.below(5) as usize;
     let links = (0..random.below(3 * n as u64 + 1))
         .map(|_| {
@@ -159,20 +183,26 @@ fn small(random: &mut Random) -> Given {
             (node(random, n), node(random, n), random.one_of(&weights))
         })
         .collect();
-    let (forward, backward) = (settings(random), settings(random));
+    let (forward, backward) = (settings(random, adapting), settings(random, adapting));
     Given { n, links, forward, backward }
 }
 
 /// The settings as antt writes them.
 fn record(c: &Settings) -> String {
-    format!(
-        "record {{ alpha = {}; epsilon = {}; «queue_threshold» = {}; «max_pushes» = {}; «adaptive_threshold» = {} }}",
-        bits(c.alpha),
-        bits(c.epsilon),
-        bits(c.queue_threshold),
-        c.max_pushes,
-        c.adaptive_threshold
-    )
+    let fields = [
+        ("alpha", bits(c.alpha)),
+        ("epsilon", bits(c.epsilon)),
+        ("«queue_threshold»", bits(c.queue_threshold)),
+        ("«max_pushes»", c.max_pushes.to_string()),
+        ("«adaptive_threshold»", c.adaptive_threshold.to_string()),
+        ("«adaptive_step»", c.adaptive_step.to_string()),
+        ("«upper_size»", c.upper_size.to_string()),
+        ("«lower_size»", c.lower_size.to_string()),
+        ("«raising_factor»", bits(c.raising_factor)),
+        ("«lowering_factor»", bits(c.lowering_factor)),
+        ("«threshold_floor»", bits(c.threshold_floor)),
+    ];
+    format!("record {{ {} }}", fields.map(|(name, value)| format!("{name} = {value}")).join("; "))
 }
 
 /// Names for the links and for the settings of both directions.
@@ -189,9 +219,9 @@ fn write(w: &mut Written, g: &Given, random: &mut Random) {
     write_given(w, g);
     let (n, graph) = (g.n, w.graph);
     let made = PushGraph::from_edges(n, &g.links);
-    let forward = ForwardPushSolver::new(made.clone(), g.forward.forward());
-    let backward = BackwardPushSolver::new(made.clone(), g.backward.backward());
-    let both = BidirectionalPushSolver::new(made.clone(), g.forward.forward(), g.backward.backward());
+    let forward = ForwardPushSolver::new(made.clone(), forward_config(&g.forward));
+    let backward = BackwardPushSolver::new(made.clone(), backward_config(&g.backward));
+    let both = BidirectionalPushSolver::new(made.clone(), forward_config(&g.forward), backward_config(&g.backward));
     let along = Side { direction: "pushForward", settings: &g.forward, degrees: &made.degrees };
     let against = Side { direction: "pushBackward", settings: &g.backward, degrees: &made.reverse_degrees };
     let (source, target) = (node(random, n), node(random, n));
@@ -239,6 +269,7 @@ fn write_long(w: &mut Written) {
         max_pushes: max_pushes as u64,
         queue_threshold: threshold,
         adaptive_threshold: true,
+        ..Settings::DEFAULT
     };
     let graph = w.graph;
     let (link, record) = (format!("link 0 0 ({}) ∷ []", bits(1.0)), record(&settings(CUTS[2])));
@@ -251,9 +282,9 @@ fn write_long(w: &mut Written) {
         for cut in CUTS {
             let made = PushGraph::from_edges(1, &links);
             let Run { push_count: pushes, estimate, residual, .. } = if direction == "pushForward" {
-                ForwardPushSolver::new(made, settings(cut).forward()).solve_single_source(0).into()
+                ForwardPushSolver::new(made, forward_config(&settings(cut))).solve_single_source(0).into()
             } else {
-                BackwardPushSolver::new(made, settings(cut).backward()).solve_single_target(0).into()
+                BackwardPushSolver::new(made, backward_config(&settings(cut))).solve_single_target(0).into()
             };
             let threshold = if cut < 1_000 { threshold } else { threshold * 0.9 };
             let state = format!(
@@ -298,9 +329,14 @@ fn main() {
     let mut random = Random::new(7);
     for graph in 0..if planted { 1 } else { GRAPHS } {
         written.graph = graph;
-        write(&mut written, &small(&mut random), &mut random);
+        // The thresholds of every second graph adapt.
+        let given = small(&mut random, graph % 2 == 1);
+        write(&mut written, &given, &mut random);
     }
     if !planted {
+        let reached = adaptions::counts();
+        let is_reached = |name: &&str| reached.iter().any(|(kind, count)| kind == name && *count > 0);
+        assert!(ADAPTIONS.iter().all(is_reached), "thresholds adapt in each of these ways: {reached:?}");
         written.graph = GRAPHS;
         write_long(&mut written);
     }
@@ -311,7 +347,7 @@ fn main() {
     }
     let file = |name: &str, text: &str| fs::write(folder.join(name), text).expect("a file that can be written");
     file("src/lib.rt", "// Equations alone.\n");
-    file("specs/Lib.antt", "-- What the repaired Rust answers.\npub mod Answers\n");
+    file("specs/Lib.antt", "-- What the Rust answers.\npub mod Answers\n");
     file("specs/Answers.antt", &written.text);
     println!("{} facts on {} graphs", written.count, GRAPHS + 1);
 }

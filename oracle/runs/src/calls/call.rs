@@ -34,8 +34,20 @@ pub struct Wish {
     pub backward_settings: Settings,
 }
 
-pub const PLAIN_SETTINGS: Settings =
-    Settings { alpha: 0.5, epsilon: 0.125, queue_threshold: 0.125, max_pushes: 10, adaptive_threshold: false };
+pub const PLAIN_SETTINGS: Settings = Settings {
+    alpha: 0.5,
+    epsilon: 0.125,
+    queue_threshold: 0.125,
+    max_pushes: 10,
+    adaptive_threshold: false,
+    ..Settings::DEFAULT
+};
+
+/// The adaptive numbers of a settings record, to be compared: the step, both sizes, and the bits of both factors and of the floor.
+pub fn adaptive_numbers(settings: &Settings) -> (u64, [u32; 2], [u64; 3]) {
+    let amounts = [settings.raising_factor, settings.lowering_factor, settings.threshold_floor];
+    (settings.adaptive_step, [settings.upper_size, settings.lower_size], amounts.map(f64::to_bits))
+}
 
 impl Default for Wish {
     fn default() -> Self {

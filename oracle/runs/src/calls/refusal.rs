@@ -48,7 +48,15 @@ pub fn misread(call: &Call, number: u32) -> Option<String> {
 
 fn settings_refused(settings: &Settings) -> bool {
     let Settings { alpha, epsilon, queue_threshold, max_pushes, .. } = *settings;
-    alpha_refused(alpha) || refused(epsilon) || refused(queue_threshold) || max_pushes > 1_000_000_000
+    let of_itself = alpha_refused(alpha) || refused(epsilon) || refused(queue_threshold) || max_pushes > 1_000_000_000;
+    of_itself || adaptive_numbers_refused(settings)
+}
+
+/// Whether one of the adaptive numbers is refused, which they are whether the threshold adapts or not.
+fn adaptive_numbers_refused(settings: &Settings) -> bool {
+    let Settings { adaptive_step, upper_size, lower_size, .. } = *settings;
+    let amounts = [settings.raising_factor, settings.lowering_factor, settings.threshold_floor];
+    adaptive_step == 0 || lower_size > upper_size || amounts.into_iter().any(refused)
 }
 
 /// Whether an alpha is not in 0..1, both of them included.

@@ -1,24 +1,19 @@
-//! What the repaired Rust makes of a solve, or of a search for a link, that is not refused.
-use super::approach::{self, Approach};
-use super::call::Wish;
-use super::entry::{Entry, Question, Solver, Task};
-use super::outcome::{Contents, Outcome, Returned};
-use crate::entries::{Found, Scored, Solved, Weighed};
-use repaired::graph::{AdjacencyList, Graph, PushGraph};
-use repaired::solver::backward_push::{BackwardPushResult, BackwardPushSolver, BidirectionalPushSolver};
-use repaired::solver::forward_push::{ForwardPushResult, ForwardPushSolver};
+//! What a copy of the Rust makes of a solve that is not refused. Each copy has types of its own, so `repaired` and `extended` both
+//! have this file as a module: `rust` is their copy.
+use super::{backward_config, forward_config, graph_of, rust};
+use crate::calls::approach::{self, Approach};
+use crate::calls::call::{Call, Wish};
+use crate::calls::entry::{Question, Solver, Task};
+use crate::calls::given;
+use crate::calls::outcome::{Contents, Outcome, Returned};
+use crate::entries::{Scored, Solved};
+use repaired::graph::PushGraph;
+use rust::solver::backward_push::{BackwardPushResult, BackwardPushSolver, BidirectionalPushSolver};
+use rust::solver::forward_push::{ForwardPushResult, ForwardPushSolver};
 
-/// What a search of the Rust's lists of neighbours returns.
-pub fn searched(lists: &AdjacencyList, entry: Entry, from: u32, to: u32) -> Returned {
-    let (from, to) = (from as usize, to as usize);
-    match entry {
-        Entry::HasEdge => Returned::Found(Found { refusal: 0, found: lists.has_edge(from, to) }),
-        Entry::EdgeWeight => {
-            let weight = lists.edge_weight(from, to);
-            Returned::Weighed(Weighed { refusal: 0, found: weight.is_some(), weight: weight.unwrap_or(0.0) })
-        }
-        _ => unreachable!("a search"),
-    }
+/// The outcome of a solve that is not refused.
+pub fn done(call: &Call, question: Question) -> Outcome {
+    Theirs::new(question.solver, given::graph(call), &call.wish).done(&call.wish, question)
 }
 
 /// The Rust's solver of a graph.
@@ -48,28 +43,45 @@ pub struct Run {
 impl From<ForwardPushResult> for Run {
     fn from(result: ForwardPushResult) -> Self {
         let ForwardPushResult { estimate, residual, push_count, nodes_visited, residual_norm } = result;
-        Self { estimate, residual, push_count, nodes_visited, residual_norm }
+        Self { residual_norm: norm(&residual, residual_norm), estimate, residual, push_count, nodes_visited }
     }
 }
 
 impl From<BackwardPushResult> for Run {
     fn from(result: BackwardPushResult) -> Self {
         let BackwardPushResult { estimate, residual, push_count, nodes_visited, residual_norm } = result;
-        Self { estimate, residual, push_count, nodes_visited, residual_norm }
+        Self { residual_norm: norm(&residual, residual_norm), estimate, residual, push_count, nodes_visited }
+    }
+}
+
+/// The norm of a residual, for which the Rust gives this. Of no numbers it gives -0.0, and +0 is right here.
+fn norm(residual: &[f64], theirs: f64) -> f64 {
+    if residual.is_empty() {
+        0.0
+    } else {
+        theirs
+    }
+}
+
+impl Run {
+    /// All its numbers, one after the other.
+    fn numbers(self) -> Vec<f64> {
+        let counts = [self.push_count as f64, self.nodes_visited as f64, self.residual_norm];
+        counts.into_iter().chain(self.estimate).chain(self.residual).collect()
     }
 }
 
 impl Theirs {
     pub fn new(solver: Solver, graph: PushGraph, wish: &Wish) -> Self {
         match solver {
-            Solver::Forward => Self::Forward(ForwardPushSolver::new(graph, wish.settings.forward())),
-            Solver::Backward => Self::Backward(BackwardPushSolver::new(graph, wish.settings.backward())),
+            Solver::Forward => Self::Forward(ForwardPushSolver::new(graph_of(graph), forward_config(&wish.settings))),
+            Solver::Backward => Self::Backward(BackwardPushSolver::new(graph_of(graph), backward_config(&wish.settings))),
             Solver::Bidirectional => {
-                let (first, second) = (wish.settings.forward(), wish.backward_settings.backward());
+                let (first, second) = (forward_config(&wish.settings), backward_config(&wish.backward_settings));
                 Self::Bidirectional(Box::new(BothWays {
-                    forward: ForwardPushSolver::new(graph.clone(), first.clone()),
-                    backward: BackwardPushSolver::new(graph.clone(), second.clone()),
-                    both: BidirectionalPushSolver::new(graph.clone(), first, second),
+                    forward: ForwardPushSolver::new(graph_of(graph.clone()), first.clone()),
+                    backward: BackwardPushSolver::new(graph_of(graph.clone()), second.clone()),
+                    both: BidirectionalPushSolver::new(graph_of(graph.clone()), first, second),
                     graph,
                 }))
             }
@@ -89,8 +101,7 @@ impl Theirs {
                 refusal: 0,
                 push_count: run.push_count as u64,
                 nodes_visited: run.nodes_visited as u64,
-                // Of no numbers the Rust's norm is -0.0, and +0 here.
-                residual_norm: if run.residual.is_empty() { 0.0 } else { run.residual_norm },
+                residual_norm: run.residual_norm,
             }),
         };
         let mut answer = vec![Contents::Real(run.estimate), Contents::Real(run.residual)];
@@ -98,6 +109,16 @@ impl Theirs {
             answer.push(Contents::Real(solver.reachability_probabilities(wish.target as usize)));
         }
         Outcome::Done { returned, answer }
+    }
+
+    /// All numbers that the Rust's own call returns, one after the other, counts too: by these, copies are held to each other.
+    pub fn numbers(&self, wish: &Wish, task: Task) -> Vec<f64> {
+        match (self, task) {
+            (Self::Bidirectional(both), _) => vec![both.score(wish, task)],
+            (_, Task::Query) => vec![self.score(wish)],
+            (Self::Backward(solver), Task::Reachability) => solver.reachability_probabilities(wish.target as usize),
+            _ => self.solved(wish, task).numbers(),
+        }
     }
 
     /// What the Rust's solve one way gives: that of a query, too.
@@ -133,11 +154,10 @@ impl Theirs {
 impl BothWays {
     fn done(&self, wish: &Wish, task: Task) -> Outcome {
         let (source, target) = (wish.source as usize, wish.target as usize);
-        let (score, taken) = match task {
-            Task::Adaptive => {
-                (self.both.adaptive_solve(source, target), approach::reached(&self.graph, wish.source, wish.target))
-            }
-            _ => (self.both.solve_bidirectional(source, target), Approach::Together),
+        let score = self.score(wish, task);
+        let taken = match task {
+            Task::Adaptive => approach::reached(&self.graph, wish.source, wish.target),
+            _ => Approach::Together,
         };
         let zeros = || (vec![0.0; self.graph.num_nodes()], vec![0.0; self.graph.num_nodes()]);
         let forward = if taken.pushes_forward() {
@@ -154,5 +174,14 @@ impl BothWays {
         };
         let answer = [forward.0, forward.1, backward.0, backward.1].map(Contents::Real).into();
         Outcome::Done { returned: Returned::Scored(Scored { refusal: 0, score }), answer }
+    }
+
+    /// What the Rust's solver of both ways gives.
+    fn score(&self, wish: &Wish, task: Task) -> f64 {
+        let (source, target) = (wish.source as usize, wish.target as usize);
+        match task {
+            Task::Adaptive => self.both.adaptive_solve(source, target),
+            _ => self.both.solve_bidirectional(source, target),
+        }
     }
 }

@@ -64,6 +64,8 @@ pub fn call_in(bytes: &[u8]) -> Option<Call> {
         queue_threshold: float(bytes, 40),
         max_pushes: u64::from(word(bytes, 48)),
         adaptive_threshold: flags == 1,
+        // A job has no others.
+        ..Settings::DEFAULT
     };
     let (list, many) = bytes[LINKS..].split_at(16 * links as usize);
     let list: Vec<_> = list.chunks_exact(16).map(|link| (word(link, 0), word(link, 4), float(link, 8))).collect();

@@ -17,7 +17,7 @@ use runs::calls::entry::{Entry, SEARCHES};
 use runs::calls::given::neighbours;
 use runs::calls::outcome::Returned;
 use runs::calls::refusal::refusal;
-use runs::calls::theirs::searched;
+use runs::calls::searched::searched;
 use runs::comparison::Comparison;
 use runs::random::Random;
 

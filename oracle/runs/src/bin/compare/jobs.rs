@@ -1,5 +1,5 @@
-//! The job program, run as a process on each input, against the repaired Rust behind the same format: its text byte for
-//! byte, and that it ends in success.
+//! The job program, run as a process on each input, against the Rust behind the same format: its text byte for byte, and that it
+//! ends in success. A job has the adaptive numbers that the repaired Rust has in its code, so both copies give the text.
 mod damaged;
 mod drawn;
 mod input;
@@ -7,6 +7,7 @@ mod limits;
 
 use crate::Asked;
 use input::{smaller, Input};
+use runs::calls::{extended, repaired};
 use runs::comparison::Comparison;
 use runs::jobs::program::{Printed, Program};
 use runs::jobs::text::text;
@@ -16,10 +17,11 @@ use std::sync::atomic::{AtomicU64, Ordering::Relaxed};
 /// The answers that a job can get, as its text begins.
 const ANSWERS: [&str; 4] = ["done", "refused 5", "refused 6", "refused 8"];
 
-/// The job program, and how often the inputs have led to each answer.
+/// The job program, how often the inputs have led to each answer, and how often both copies of the Rust have solved one alike.
 struct Jobs {
     program: Program,
     answers: [AtomicU64; ANSWERS.len()],
+    alike: AtomicU64,
 }
 
 pub fn compare(asked: &Asked, comparison: &mut Comparison, random: &mut Random) {
@@ -59,6 +61,8 @@ pub fn compare(asked: &Asked, comparison: &mut Comparison, random: &mut Random) 
     let answers: Vec<(&str, u64)> =
         ANSWERS.into_iter().zip(&jobs.answers).map(|(answer, count)| (answer, count.load(Relaxed))).collect();
     comparison.reached("job, each answer", &answers);
+    let alike = [("texts", jobs.alike.load(Relaxed))];
+    comparison.reached("job, solved alike by the extended Rust and the repaired", &alike);
 }
 
 /// The program's text with its last digit turned where the job has two nodes.
@@ -71,14 +75,14 @@ pub fn planted(comparison: &mut Comparison, random: &mut Random) {
                 *digit ^= 1;
             }
         }
-        unlike(&printed, &text(&input.bytes))
+        unlike(&printed, &text(&input.bytes, extended::done))
     };
     comparison.kind_at_once("job, planted", drawn::small(random, 1, 1), spoiled, smaller);
 }
 
 impl Jobs {
     fn new() -> Self {
-        Self { program: Program::job(), answers: Default::default() }
+        Self { program: Program::job(), answers: Default::default(), alike: Default::default() }
     }
 
     fn printed(&self, input: &Input) -> Printed {
@@ -86,15 +90,28 @@ impl Jobs {
     }
 
     fn difference(&self, input: &Input) -> Option<String> {
-        let right = text(&input.bytes);
+        let right = text(&input.bytes, extended::done);
         let answer = ANSWERS.iter().position(|answer| right.starts_with(answer)).expect("one of the answers");
         self.answers[answer].fetch_add(1, Relaxed);
-        unlike(&self.printed(input), &right)
+        self.of_copies(input, &right).or_else(|| unlike(&self.printed(input), &right))
+    }
+
+    /// Where the repaired Rust prints another text than the extended one, of a job that is done.
+    fn of_copies(&self, input: &Input, extended: &str) -> Option<String> {
+        if !extended.starts_with("done") {
+            return None;
+        }
+        let repaired = text(&input.bytes, repaired::done);
+        if repaired != extended {
+            return Some(format!("the repaired Rust's side prints {repaired:?}, that of the extended one {extended:?}"));
+        }
+        self.alike.fetch_add(1, Relaxed);
+        None
     }
 
     /// A job whose text docs/RULES.md gives: the Rust's side is held to it too.
     fn of_case(&self, (input, right): &(Input, String)) -> Option<String> {
-        let theirs = text(&input.bytes);
+        let theirs = text(&input.bytes, extended::done);
         let misread = (theirs != *right).then(|| format!("the Rust's side prints {theirs:?}, docs/RULES.md {right:?}"));
         misread.or_else(|| self.difference(input))
     }

@@ -1,4 +1,5 @@
-//! Compares the proved library with the repaired Rust, input by input.
+//! Compares the proved library with the Rust, input by input: with the extended copy of it, and where that can be asked with the
+//! repaired one.
 //!
 //! compare [full | quarter | short] [seed N] [for MINUTES] [behind | before] [overrun NAME] [store] [forward] [backward] [bidirectional] [recorded] [jobs] [planted]
 //!
@@ -6,8 +7,9 @@
 //! root, the norm, the graph store and the calls on vectors alone, `recorded` what `record solver` wrote of the Rust,
 //! which itself is not called there, `jobs` the job program as a process. `planted` puts one wrong digit, or a wrong no, into
 //! some of the proved library's answers, of the square root, of each search for a link, of each call of the solvers, of each
-//! that is recorded and of the job program, to show that a difference is found, and leaves a push due in the Rust's vectors of each
-//! solve that is held to the statement for the stop: the program must then fail, and it does so only where each is found.
+//! that is recorded and of the job program, to show that a difference is found, leaves a push due in the Rust's vectors of each
+//! solve that is held to the statement for the stop, and puts a wrong digit into what one copy of the Rust answers to each question
+//! of the solvers: the program must then fail, and it does so only where each is found.
 //! With `for` it begins anew with the next seed, part by part, until so many minutes are over.
 //!
 //! `behind` puts every list that is lent right before memory that nothing may touch, and `before` right behind such memory, so

@@ -1,9 +1,10 @@
 //! The calls of the forward, backward and bidirectional solvers against the Rust's, and against the refusals of
 //! docs/RULES.md. Each call is compared whole: what it returns, and every word of every buffer. What the Rust's solves leave is also
-//! held to the statement for the stop.
+//! held to the statement for the stop, and its two copies to each other.
 mod adaptive;
 mod boundaries;
 mod expected;
+mod numbers;
 mod stop;
 mod watched;
 
@@ -14,6 +15,8 @@ use crate::calls::{damaged, empty, limits, lists, sharing, wishes};
 use crate::Asked;
 pub use adaptive::Layout;
 use expected::Expected;
+use extended::adaptions;
+use numbers::Numbers;
 use runs::calls::call::{Call, Wish};
 use runs::calls::entry::{Entry, Form, Question, Solver, Task};
 use runs::calls::outcome::Outcome;
@@ -32,11 +35,13 @@ struct Solves<'a> {
 pub fn compare(asked: &Asked, solver: Solver, comparison: &mut Comparison, random: &mut Random) {
     let solves = Solves { asked, solver };
     stop::forget();
+    expected::forget();
     solves.small_graphs(comparison, random);
     solves.refusals(comparison, random);
     solves.random_graphs(comparison, random);
     solves.sharing(comparison, random);
     solves.adapting(comparison, random);
+    solves.adaptive_numbers(comparison, random);
     if solver == Solver::Bidirectional {
         let inputs = boundaries::drawn(random, asked.size(5_000, 200_000));
         solves.kind(comparison, "degrees at twice each other, and next to it", inputs.into_iter());
@@ -51,40 +56,47 @@ pub fn compare(asked: &Asked, solver: Solver, comparison: &mut Comparison, rando
     } else {
         solves.reached(comparison, "the statement for the stop", &stop::counts());
     }
+    solves.reached(comparison, "solved alike by the extended Rust and the repaired", &expected::alike());
 }
 
-/// Each call with a wrong digit in its answers on two nodes, and each solve that is held to the statement for the stop with a push
-/// left due there.
+/// Each call with a wrong digit in its answers on two nodes, each solve that is held to the statement for the stop with a push
+/// left due there, and each question with a wrong digit in what one copy of the Rust answers.
 pub fn planted(solver: Solver, comparison: &mut Comparison, random: &mut Random) {
+    let grid = wishes::grid();
     for entry in solver.entries() {
-        let inputs = on_small_graphs(random, solver, 2, 1, 1);
+        let inputs = on_small_graphs(random, solver, 2, 1, 1, &grid);
         let name = format!("{}, planted", entry.name());
         comparison.kind(&name, inputs, |call| of_graph_spoiling(call, Some(entry)), smaller);
     }
     for question in solver.questions().into_iter().filter(|question| stop::covers(question.task)) {
-        let inputs = on_small_graphs(random, solver, 2, 1, 1);
+        let inputs = on_small_graphs(random, solver, 2, 1, 1, &grid);
         let name = format!("{}, a push left due, planted", question.name());
         comparison.kind(&name, inputs, |call| of_stop_spoiled(call, question), smaller);
     }
+    for question in solver.questions() {
+        let inputs = on_small_graphs(random, solver, 2, 1, 1, &grid);
+        let name = format!("{}, copies of the Rust, planted", question.name());
+        comparison.kind(&name, inputs, |call| of_copy_spoiled(call, question), smaller);
+    }
 }
 
-/// Every list of up to so many nodes and exactly so many links, each with so many settings of the grid.
-fn on_small_graphs(
-    random: &mut Random,
+/// Every list of up to so many nodes and exactly so many links, each with so many settings of the grid. A second record has others.
+fn on_small_graphs<'a>(
+    random: &'a mut Random,
     solver: Solver,
     nodes: u32,
     links: u32,
     each: usize,
-) -> impl Iterator<Item = Call> + '_ {
-    let all = wishes::grid();
-    // Steps of 7 come to each place of the 600.
-    let mut grid = all.clone().into_iter().cycle().step_by(7);
+    grid: &'a [Settings],
+) -> impl Iterator<Item = Call> + 'a {
+    assert_ne!(grid.len() % 7, 0, "steps of 7 come to each place of the grid");
+    let mut places = (0..grid.len()).cycle().step_by(7);
     lists::every(nodes, links, lists::FEW_WEIGHTS).flat_map(move |graph| {
-        let chosen: Vec<Settings> = grid.by_ref().take(each).collect();
+        let chosen: Vec<usize> = places.by_ref().take(each).collect();
         let call = graph.solving(solver.first_question());
-        let wished = |settings: Settings| {
-            let second = random.one_of(&all);
-            call.clone().wishing(wishes::with_settings(random, &call, [settings, second]))
+        let wished = |place: usize| {
+            let settings = numbers::pair(random, grid, place);
+            call.clone().wishing(wishes::with_settings(random, &call, settings))
         };
         chosen.into_iter().map(wished).collect::<Vec<_>>()
     })
@@ -123,9 +135,10 @@ impl Solves<'_> {
             (2, 3, self.asked.size(u64::from(self.solver == Solver::Forward && !self.asked.short), 60)),
             (3, 3, self.asked.size(0, 4)),
         ];
+        let grid = wishes::grid();
         for (nodes, links, each) in classes.into_iter().filter(|class| class.2 > 0) {
             let name = format!("every list of up to {nodes} nodes and {links} links, {each} settings each");
-            self.kind(comparison, &name, on_small_graphs(random, self.solver, nodes, links, each as usize));
+            self.kind(comparison, &name, on_small_graphs(random, self.solver, nodes, links, each as usize, &grid));
         }
     }
 
@@ -214,6 +227,42 @@ impl Solves<'_> {
         if self.solver != Solver::Bidirectional {
             self.kind(comparison, "queues at the sizes where the threshold adapts", layout.edges().into_iter());
         }
+    }
+
+    /// Solves with other adaptive numbers than the default ones, which must reach all that can become of a threshold.
+    fn adaptive_numbers(&self, comparison: &mut Comparison, random: &mut Random) {
+        let numbers = Numbers(self.solver);
+        let classes = [
+            (8, 40, self.size(6_000, 60_000).max(100)),
+            (64, 400, self.size(600, 8_000)),
+            (1_000, 10_000, self.size(20, 250)),
+        ];
+        let drawn = classes.map(|(nodes, links, count)| numbers.drawn(random, nodes, links, count));
+        let long = numbers.long(random, self.size(4, 40));
+        // What is counted from here on is of the inputs alone.
+        adaptions::forget();
+        self.every_adaptive_number(comparison, random);
+        let mut shown = 0;
+        for ((nodes, links, _), (inputs, unlike)) in classes.into_iter().zip(drawn) {
+            let name = format!("adaptive numbers that are drawn, lists of up to {nodes} nodes and {links} links");
+            self.kind(comparison, &name, inputs.into_iter());
+            shown += unlike;
+        }
+        self.reached(comparison, "adaptive numbers that change the residual", &[("solves", shown)]);
+        self.kind(comparison, "adaptive numbers for queues of many thousands", long.into_iter());
+        self.reached(comparison, "what became of thresholds", &adaptions::counts());
+    }
+
+    /// Those of a grid on every small graph, and those about the sizes of small queues.
+    fn every_adaptive_number(&self, comparison: &mut Comparison, random: &mut Random) {
+        let grid = numbers::grid();
+        let classes = [(3, 0, self.size(600, 6_480)), (3, 1, self.size(300, 2_500)), (3, 2, self.size(6, 40))];
+        for (nodes, links, each) in classes {
+            let name = format!("every list of up to {nodes} nodes and {links} links, {each} adaptive numbers each");
+            self.kind(comparison, &name, on_small_graphs(random, self.solver, nodes, links, each as usize, &grid));
+        }
+        let inputs = Numbers(self.solver).queues(random, self.size(1_200, 9_720).max(600));
+        self.kind(comparison, "adaptive numbers about the queue's size at each step", inputs.into_iter());
     }
 
     fn watched_and_many(&self, comparison: &mut Comparison, random: &mut Random) {
@@ -313,6 +362,14 @@ fn of_stop_spoiled(call: &Call, question: Question) -> Option<String> {
         return None;
     }
     Expected::new(question.solver, given::graph(call), &call.wish).spoiled(&call.wish, question)
+}
+
+/// What the copies of the Rust are told to differ by, where one's answer to a question of a graph of two nodes is spoiled.
+fn of_copy_spoiled(call: &Call, question: Question) -> Option<String> {
+    if refusal(call) != 0 || call.nodes != 2 {
+        return None;
+    }
+    Expected::new(question.solver, given::graph(call), &call.wish).copy_spoiled(&call.wish, question)
 }
 
 /// One call of any kind.

@@ -7,7 +7,7 @@ use repaired::graph::{CompressedSparseRow, PushGraph};
 use runs::calls::approach::Approach;
 use runs::calls::call::{Call, Wish};
 use runs::calls::entry::{Entry, Form, Question, Solver, Task};
-use runs::calls::theirs::{Run, Theirs as OneWay};
+use runs::calls::repaired::{Run, Theirs as OneWay};
 use runs::entries::Settings;
 use runs::random::Random;
 use std::hint::black_box;

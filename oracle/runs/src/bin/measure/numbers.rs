@@ -5,6 +5,7 @@ use crate::work::{Work, COLUMNS};
 use repaired::graph::PushGraph;
 use repaired::solver::backward_push::{BackwardPushResult, BackwardPushSolver};
 use repaired::solver::forward_push::{ForwardPushResult, ForwardPushSolver};
+use runs::calls::repaired::{backward_config, forward_config};
 use runs::entries::{self, Settings};
 use runs::random::Random;
 use std::hint::black_box;
@@ -58,7 +59,7 @@ pub fn work(name: &str, size: usize) -> Work<'static> {
         }
         "extrapolated_solution" => {
             let (estimate_too, residual_too, mut solution) = (estimate.clone(), residual.clone(), vec![0.0; size]);
-            let solver = ForwardPushSolver::new(empty(), Settings::DEFAULT.forward());
+            let solver = ForwardPushSolver::new(empty(), forward_config(&Settings::DEFAULT));
             let result = ForwardPushResult { estimate, residual, push_count, nodes_visited, residual_norm };
             Work {
                 labels,
@@ -73,7 +74,7 @@ pub fn work(name: &str, size: usize) -> Work<'static> {
         "combine_with_forward" => {
             let (estimate_too, residual_too) = (estimate.clone(), residual.clone());
             let (forward_too, rest_too) = (forward_estimate.clone(), forward_residual.clone());
-            let solver = BackwardPushSolver::new(empty(), Settings::DEFAULT.backward());
+            let solver = BackwardPushSolver::new(empty(), backward_config(&Settings::DEFAULT));
             let result = BackwardPushResult { estimate, residual, push_count, nodes_visited, residual_norm };
             Work {
                 labels,

@@ -4,7 +4,7 @@ use repaired::graph::PushGraph;
 use repaired::solver::backward_push::BidirectionalPushSolver;
 use runs::calls::call::Wish;
 use runs::calls::entry::{Solver, Task};
-use runs::calls::theirs::Theirs as OneWay;
+use runs::calls::repaired::{backward_config, forward_config, Theirs as OneWay};
 
 /// What both sides come to: the norm of a solve and its pushes, or a score; nothing where the answer is a list.
 #[derive(Debug)]
@@ -23,7 +23,7 @@ impl Theirs {
     pub fn new(solver: Solver, graph: PushGraph, wish: &Wish) -> Self {
         match solver {
             Solver::Bidirectional => {
-                let (forward, backward) = (wish.settings.forward(), wish.backward_settings.backward());
+                let (forward, backward) = (forward_config(&wish.settings), backward_config(&wish.backward_settings));
                 Self::Both(BidirectionalPushSolver::new(graph, forward, backward))
             }
             _ => Self::OneWay(OneWay::new(solver, graph, wish)),

@@ -10,6 +10,7 @@ use repaired::solver::forward_push::{ForwardPushResult, ForwardPushSolver};
 use runs::calls::approach;
 use runs::calls::entry::{Entry, Form, Question, Solver, Task};
 use runs::calls::outcome::{Contents, Outcome, Returned};
+use runs::calls::repaired::{backward_config, forward_config};
 use runs::calls::vectors::Entry::{Combined, Extrapolated};
 use runs::entries::Scored;
 use runs::random::Random;
@@ -43,7 +44,7 @@ fn single(solver: Solver) -> Entry {
 }
 
 fn extrapolated(call: &Vectors) -> Outcome {
-    let solver = ForwardPushSolver::new(PushGraph::from_edges(0, &[]), call.settings.forward());
+    let solver = ForwardPushSolver::new(PushGraph::from_edges(0, &[]), forward_config(&call.settings));
     let (estimate, residual) = (call.read[0].clone(), call.read[1].clone());
     let given = ForwardPushResult { estimate, residual, push_count: 0, nodes_visited: 0, residual_norm: 0.0 };
     let answer = vec![Contents::Real(solver.extrapolated_solution(&given))];
@@ -51,7 +52,7 @@ fn extrapolated(call: &Vectors) -> Outcome {
 }
 
 fn combined(call: &Vectors) -> Outcome {
-    let solver = BackwardPushSolver::new(PushGraph::from_edges(0, &[]), call.settings.backward());
+    let solver = BackwardPushSolver::new(PushGraph::from_edges(0, &[]), backward_config(&call.settings));
     let (estimate, residual) = (call.read[0].clone(), call.read[1].clone());
     let given = BackwardPushResult { estimate, residual, push_count: 0, nodes_visited: 0, residual_norm: 0.0 };
     let score = solver.combine_with_forward(&given, &call.read[2], &call.read[3]);

@@ -9,6 +9,7 @@ use runs::calls::call::Call;
 use runs::calls::entry::{Entry, Task};
 use runs::calls::refusal::applies;
 use runs::comparison::Comparison;
+use runs::entries::Settings;
 use runs::random::Random;
 
 /// What makes a sound call break the condition of `number`. Damages of lower numbers go first: they set the sizes.
@@ -94,6 +95,29 @@ fn of_settings(record: SettingsOf) -> Vec<Damage> {
     }
     for pushes in [MOST_PUSHES + 1, u64::MAX] {
         found.push(damage(6, move |call| record(&mut call.wish).max_pushes = pushes));
+    }
+    found.extend(of_adaptive_numbers(record));
+    found
+}
+
+/// Damages of the adaptive numbers of one settings record, whose threshold adapts or does not.
+fn of_adaptive_numbers(record: SettingsOf) -> Vec<Damage> {
+    let changed = |adaptive_threshold: bool, act: Box<dyn Fn(&mut Settings)>| {
+        damage(6, move |call| {
+            let settings = record(&mut call.wish);
+            settings.adaptive_threshold = adaptive_threshold;
+            act(settings);
+        })
+    };
+    let mut found = Vec::new();
+    for adaptive in [true, false] {
+        found.push(changed(adaptive, Box::new(|settings| settings.adaptive_step = 0)));
+        found.push(changed(adaptive, Box::new(|settings| (settings.upper_size, settings.lower_size) = (1, 2))));
+    }
+    for (number, adaptive) in [(-5e-324, true), (f64::INFINITY, false), (f64::NAN, true)] {
+        found.push(changed(adaptive, Box::new(move |settings| settings.raising_factor = number)));
+        found.push(changed(!adaptive, Box::new(move |settings| settings.lowering_factor = number)));
+        found.push(changed(adaptive, Box::new(move |settings| settings.threshold_floor = number)));
     }
     found
 }

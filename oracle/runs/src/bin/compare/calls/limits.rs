@@ -107,7 +107,7 @@ pub fn every_rows(entry: Entry, nodes: u32, links: u32) -> impl Iterator<Item = 
     })
 }
 
-/// The edges that docs/RULES.md does by hand, and what it says of each.
+/// The edges that docs/RULES.md does by hand, and others of its table and of its requests, with the number that each gives.
 pub fn by_hand(entries: &[Entry]) -> Vec<(Call, u32)> {
     let mut found = Vec::new();
     for &entry in entries {
@@ -150,6 +150,16 @@ fn wishes_by_hand(entry: Entry) -> Vec<(Call, u32)> {
         found.push((wishing(&|wish| record(wish).alpha = f64::from_bits(1f64.to_bits() + 1)), 6));
         found.push((wishing(&|wish| record(wish).max_pushes = 1_000_000_000), 0));
         found.push((wishing(&|wish| record(wish).max_pushes = 1_000_000_001), 6));
+        found.push((wishing(&|wish| record(wish).adaptive_step = 1), 0));
+        found.push((wishing(&|wish| record(wish).adaptive_step = 0), 6));
+        found.push((wishing(&|wish| (record(wish).upper_size, record(wish).lower_size) = (2, 2)), 0));
+        found.push((wishing(&|wish| (record(wish).upper_size, record(wish).lower_size) = (1, 2)), 6));
+        found.push((wishing(&|wish| record(wish).raising_factor = -0.0), 0));
+        found.push((wishing(&|wish| record(wish).raising_factor = f64::INFINITY), 6));
+        found.push((wishing(&|wish| record(wish).lowering_factor = -0.0), 0));
+        found.push((wishing(&|wish| record(wish).lowering_factor = -5e-324), 6));
+        found.push((wishing(&|wish| record(wish).threshold_floor = -0.0), 0));
+        found.push((wishing(&|wish| record(wish).threshold_floor = f64::NAN), 6));
     }
     if let Some(task) = entry.task() {
         found.push((wishing(&|wish| wish.precision = -0.0), 0));

@@ -3,6 +3,7 @@
 use super::wishes::{records, SettingsOf};
 use runs::calls::call::{Call, Wish, PLAIN_SETTINGS};
 use runs::comparison::same;
+use runs::entries::Settings;
 use std::ops::Range;
 
 /// Up to so many links, each link is tried by itself.
@@ -162,23 +163,28 @@ fn with_smaller_wishes(call: &Call) -> Vec<Call> {
     found
 }
 
+/// The parts of a settings record but its number of pushes: whether two records have the same, and what takes it over.
+type Part = (fn(&Settings, &Settings) -> bool, fn(&mut Settings, &Settings));
+
+const PARTS: [Part; 10] = [
+    (|a, b| same(a.alpha, b.alpha), |to, from| to.alpha = from.alpha),
+    (|a, b| same(a.epsilon, b.epsilon), |to, from| to.epsilon = from.epsilon),
+    (|a, b| same(a.queue_threshold, b.queue_threshold), |to, from| to.queue_threshold = from.queue_threshold),
+    (|a, b| a.adaptive_threshold == b.adaptive_threshold, |to, from| to.adaptive_threshold = from.adaptive_threshold),
+    (|a, b| a.adaptive_step == b.adaptive_step, |to, from| to.adaptive_step = from.adaptive_step),
+    (|a, b| a.upper_size == b.upper_size, |to, from| to.upper_size = from.upper_size),
+    (|a, b| a.lower_size == b.lower_size, |to, from| to.lower_size = from.lower_size),
+    (|a, b| same(a.raising_factor, b.raising_factor), |to, from| to.raising_factor = from.raising_factor),
+    (|a, b| same(a.lowering_factor, b.lowering_factor), |to, from| to.lowering_factor = from.lowering_factor),
+    (|a, b| same(a.threshold_floor, b.threshold_floor), |to, from| to.threshold_floor = from.threshold_floor),
+];
+
 /// The call with each part of one settings record made plain, and with fewer pushes.
 fn with_plainer(call: &Call, record: SettingsOf) -> Vec<Call> {
     let settings = *record(&mut call.wish.clone());
-    let plain = PLAIN_SETTINGS;
-    let mut found = Vec::new();
-    if !same(settings.alpha, plain.alpha) {
-        found.push(with_wish(call, |wish| record(wish).alpha = plain.alpha));
-    }
-    if !same(settings.epsilon, plain.epsilon) {
-        found.push(with_wish(call, |wish| record(wish).epsilon = plain.epsilon));
-    }
-    if !same(settings.queue_threshold, plain.queue_threshold) {
-        found.push(with_wish(call, |wish| record(wish).queue_threshold = plain.queue_threshold));
-    }
-    if settings.adaptive_threshold {
-        found.push(with_wish(call, |wish| record(wish).adaptive_threshold = false));
-    }
+    let unlike = PARTS.iter().filter(|(alike, _)| !alike(&settings, &PLAIN_SETTINGS));
+    let mut found: Vec<Call> =
+        unlike.map(|(_, take)| with_wish(call, |wish| take(record(wish), &PLAIN_SETTINGS))).collect();
     if settings.max_pushes != 0 {
         found.push(with_wish(call, |wish| record(wish).max_pushes /= 2));
         found.push(with_wish(call, |wish| record(wish).max_pushes -= 1));

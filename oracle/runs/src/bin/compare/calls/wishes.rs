@@ -50,6 +50,15 @@ const NUMBERS: [f64; 15] = [
 const PUSHES: [u64; 10] =
     [0, 1, 2, MOST_PUSHES - 1, MOST_PUSHES, MOST_PUSHES + 1, u32::MAX as u64, 1 << 32, 1 << 63, u64::MAX];
 
+const STEPS: [u64; 4] = [0, 1, 2, u64::MAX];
+
+/// Upper and lower sizes, equal and on both sides of that.
+const SIZES: [(u32, u32); 8] =
+    [(0, 0), (1, 0), (0, 1), (100, 100), (99, 100), (u32::MAX, u32::MAX), (u32::MAX, 0), (u32::MAX - 1, u32::MAX)];
+
+/// Factors and floors: one of each kind that passes, next to a limit or far from it, and of each that is refused.
+const AMOUNTS: [f64; 9] = [0.0, -0.0, 5e-324, -5e-324, -1.0, f64::MAX, f64::INFINITY, f64::NEG_INFINITY, f64::NAN];
+
 /// One of the settings records of a wish.
 pub type SettingsOf = fn(&mut Wish) -> &mut Settings;
 
@@ -78,6 +87,14 @@ pub fn limits(entry: Entry) -> Vec<Call> {
         parts.push(changes(&NUMBERS, move |wish, number| record(wish).epsilon = number));
         parts.push(changes(&NUMBERS, move |wish, number| record(wish).queue_threshold = number));
         parts.push(changes(&PUSHES, move |wish, pushes| record(wish).max_pushes = pushes));
+        parts.push(changes(&[true], move |wish, adaptive| record(wish).adaptive_threshold = adaptive));
+        parts.push(changes(&STEPS, move |wish, step| record(wish).adaptive_step = step));
+        parts.push(changes(&SIZES, move |wish, (upper, lower)| {
+            (record(wish).upper_size, record(wish).lower_size) = (upper, lower);
+        }));
+        parts.push(changes(&AMOUNTS, move |wish, factor| record(wish).raising_factor = factor));
+        parts.push(changes(&AMOUNTS, move |wish, factor| record(wish).lowering_factor = factor));
+        parts.push(changes(&AMOUNTS, move |wish, floor| record(wish).threshold_floor = floor));
     }
     if entry.task() == Some(Task::Watched) {
         parts.push(changes(&NUMBERS, |wish, number| wish.precision = number));
@@ -106,7 +123,7 @@ fn ends(call: &Call) -> bool {
     refusal(call) != 0 || records(call.entry).iter().all(|record| soon(record(&mut call.wish.clone())))
 }
 
-/// Settings of a few values each, all of them.
+/// Settings of a few values each, all of them, with the default adaptive numbers.
 pub fn grid() -> Vec<Settings> {
     let mut found = Vec::new();
     for alpha in [0.0, -0.0, 0.15, 0.5, 1.0] {
@@ -114,7 +131,14 @@ pub fn grid() -> Vec<Settings> {
             for queue_threshold in [0.0, 1e-8, 0.25, 2.0] {
                 for max_pushes in [0, 1, 2, 10, 47] {
                     for adaptive_threshold in [false, true] {
-                        found.push(Settings { alpha, epsilon, queue_threshold, max_pushes, adaptive_threshold });
+                        found.push(Settings {
+                            alpha,
+                            epsilon,
+                            queue_threshold,
+                            max_pushes,
+                            adaptive_threshold,
+                            ..Settings::DEFAULT
+                        });
                     }
                 }
             }
@@ -175,13 +199,44 @@ fn settings(random: &mut Random) -> Settings {
     let (hundred, thousands) = (random.below(100), random.below(5_000));
     let few = random.one_of(&[0, 1, 2, 10, hundred]);
     let many = random.one_of(&[999, 1_000, 1_001, 1_999, 2_000, 2_001, thousands]);
-    Settings {
+    let settings = Settings {
         alpha: random.one_of(&[0.0, -0.0, 0.15, 0.15, 0.5, unit, 0.01 * unit, 1.0]),
         epsilon: random.one_of(&[0.0, 0.0, -0.0, 1e-300, 1e-6, 1e-3 * unit, 0.25]),
         queue_threshold: random.one_of(&[0.0, 0.0, -0.0, 1e-300, 1e-8, 1e-5, 1e-3 * unit, 0.25, 2.0]),
         max_pushes: if random.below(8) == 0 { many } else { few },
         adaptive_threshold: random.below(2) == 0,
+        ..Settings::DEFAULT
+    };
+    // One in four has other adaptive numbers.
+    if random.below(4) > 0 {
+        return settings;
     }
+    let size = random.one_of(&[1, 3, 30, 300]);
+    with_numbers(random, settings, size)
+}
+
+/// The settings with adaptive numbers that are drawn, and sizes about this one.
+pub fn with_numbers(random: &mut Random, settings: Settings, size: u32) -> Settings {
+    let (pushes, threshold) = (settings.max_pushes, settings.queue_threshold);
+    let unit = random.unit();
+    let factors = [0.0, -0.0, 5e-324, 0.5, 0.9, 1.0, 1.1, 2.0, 1e300, f64::MAX, 2.0 * unit];
+    let settings = Settings {
+        adaptive_step: random.one_of(&[1, 1, 1, 2, 2, 7, 7, 1_000, pushes.max(1), pushes + 1, u64::MAX]),
+        raising_factor: random.one_of(&factors),
+        lowering_factor: random.one_of(&factors),
+        threshold_floor: random.one_of(&[0.0, 0.0, -0.0, 1e-12, 1e-3 * unit, threshold, 2.0, f64::MAX]),
+        ..settings
+    };
+    with_sizes(random, settings, size)
+}
+
+/// The settings with an upper and a lower size about this one.
+pub fn with_sizes(random: &mut Random, settings: Settings, size: u32) -> Settings {
+    let below = random.below(u64::from(size) + 1) as u32;
+    let next = random.one_of(&[size.saturating_sub(1), size, size + 1]);
+    let one = random.one_of(&[0, below, next, u32::MAX]);
+    let other = random.one_of(&[next, next, one, below]);
+    Settings { upper_size: one.max(other), lower_size: one.min(other), ..settings }
 }
 
 /// A node, the end of a link as often as any; now and then a number that is none.

@@ -6,7 +6,7 @@ use runs::calls::entry::Entry;
 use runs::calls::given::{graph_of_links, matrix, neighbours};
 use runs::calls::outcome::{Contents, Outcome, Returned};
 use runs::calls::refusal::refusal;
-use runs::calls::theirs::searched;
+use runs::calls::searched::searched;
 use runs::entries::Built;
 
 /// The outcome of a call of any kind.

@@ -7,6 +7,7 @@ use crate::calls::wishes;
 use crate::solves::Layout;
 use runs::calls::call::{Call, Wish};
 use runs::calls::entry::Solver;
+use runs::calls::extended::done;
 use runs::entries::Settings;
 use runs::jobs::bytes::{MOST_LINKS, MOST_NODES, MOST_SOURCES, QUESTION};
 use runs::jobs::program::Way;
@@ -93,8 +94,14 @@ pub fn queue_sizes() -> Vec<Input> {
         // A part of what a node gets from the source, such that the nodes that leave the queue at last all leave it
         // between two thousands.
         let queue_threshold = 0.32 * (1.0 - ALPHA) / f64::from(size);
-        let settings =
-            Settings { alpha: ALPHA, epsilon: 0.0, queue_threshold, max_pushes: 20_000, adaptive_threshold: true };
+        let settings = Settings {
+            alpha: ALPHA,
+            epsilon: 0.0,
+            queue_threshold,
+            max_pushes: 20_000,
+            adaptive_threshold: true,
+            ..Settings::DEFAULT
+        };
         let wish = Wish { many: vec![0], settings, ..Wish::default() };
         let inputs = with_either_mark(Call::on_links(size + 1, &links).solving(QUESTION).wishing(wish));
         assert_eq!(adapts(&inputs), size < 100, "the threshold adapts below a size, and not at it");
@@ -112,7 +119,7 @@ fn with_either_mark(call: Call) -> [Input; 2] {
 }
 
 fn adapts([adaptive, constant]: &[Input; 2]) -> bool {
-    text(&adaptive.bytes) != text(&constant.bytes)
+    text(&adaptive.bytes, done) != text(&constant.bytes, done)
 }
 
 /// A job on the graph, with a wish that is drawn.

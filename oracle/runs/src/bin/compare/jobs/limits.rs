@@ -7,6 +7,7 @@ use crate::calls::wishes::next_up;
 use crate::calls::{limits, wishes};
 use runs::calls::call::{Call, Wish};
 use runs::calls::entry::{Entry, Form};
+use runs::calls::repaired;
 use runs::entries::Settings;
 use runs::jobs::bytes::{laid_out, MOST_LINKS, MOST_NODES, MOST_SOURCES, QUESTION};
 
@@ -17,9 +18,11 @@ pub fn weights() -> Vec<Input> {
     limits::weights(ENTRY).iter().map(Input::of).collect()
 }
 
-/// Every number at a limit, in each place of a small job and in each two, as far as it has room in a job.
+/// Every number at a limit, in each place of a small job and in each two, as far as it has room in a job: the adaptive numbers have
+/// none.
 pub fn settings() -> Vec<Input> {
-    let has_room = |call: &Call| u32::try_from(call.wish.settings.max_pushes).is_ok();
+    let has_room =
+        |call: &Call| u32::try_from(call.wish.settings.max_pushes).is_ok() && repaired::takes(&call.wish.settings);
     wishes::limits(ENTRY).into_iter().filter(has_room).map(|call| Input::of(&call)).collect()
 }
 
@@ -42,7 +45,14 @@ pub fn sizes() -> Vec<Input> {
 
 /// The sums and edges that docs/RULES.md does by hand, each with its text.
 pub fn by_hand() -> Vec<(Input, String)> {
-    let settings = Settings { alpha: 0.5, epsilon: 0.25, queue_threshold: 0.25, max_pushes: 10, adaptive_threshold: false };
+    let settings = Settings {
+        alpha: 0.5,
+        epsilon: 0.25,
+        queue_threshold: 0.25,
+        max_pushes: 10,
+        adaptive_threshold: false,
+        ..Settings::DEFAULT
+    };
     let plain = || {
         let wish = Wish { many: vec![0], settings, ..Wish::default() };
         Call::on_links(2, &[(0, 1, 1.0)]).solving(QUESTION).wishing(wish)

@@ -4,8 +4,8 @@
 use crate::calls::lists;
 use runs::calls::call::{Call, Wish};
 use runs::calls::entry::{Solver, Task};
+use runs::calls::extended::Theirs;
 use runs::calls::given::graph;
-use runs::calls::theirs::Theirs;
 use runs::entries::Settings;
 use runs::random::Random;
 
@@ -44,7 +44,7 @@ impl Layout {
     }
 
     /// A solve from node 0; the other end of a query is `other`.
-    fn solve(self, nodes: u32, mut links: Vec<(u32, u32, f64)>, wish: Wish, other: u32) -> Call {
+    pub(super) fn solve(self, nodes: u32, mut links: Vec<(u32, u32, f64)>, wish: Wish, other: u32) -> Call {
         let (mut source, mut target) = (0, other);
         if self.0 == Solver::Backward {
             links.iter_mut().for_each(|(from, to, _)| std::mem::swap(from, to));
@@ -87,7 +87,7 @@ impl Layout {
         self.drawn(random, count, Self::star, |adaptive, constant| adaptive > 10_000 && adaptive < constant)
     }
 
-    fn star(self, random: &mut Random) -> Call {
+    pub(super) fn star(self, random: &mut Random) -> Call {
         let leaves = 11_000 + random.below(20_000) as u32;
         // The weights add up to about 1, so that either way each leaf gets its share of what the first node holds.
         let weight = |random: &mut Random| (0.5 + random.unit()) / f64::from(leaves);
@@ -139,7 +139,8 @@ impl Layout {
 }
 
 fn wish(alpha: f64, queue_threshold: f64, max_pushes: u64) -> Wish {
-    let settings = Settings { alpha, epsilon: 0.0, queue_threshold, max_pushes, adaptive_threshold: true };
+    let settings =
+        Settings { alpha, epsilon: 0.0, queue_threshold, max_pushes, adaptive_threshold: true, ..Settings::DEFAULT };
     Wish { many: vec![0], precision: 0.5, settings, backward_settings: settings, ..Wish::default() }
 }
 

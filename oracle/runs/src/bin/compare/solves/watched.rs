@@ -3,8 +3,8 @@ use crate::calls::wishes::{next_down, next_up};
 use crate::calls::{lists, wishes};
 use runs::calls::call::Call;
 use runs::calls::entry::{Question, Solver, Task};
+use runs::calls::extended::Theirs;
 use runs::calls::given;
-use runs::calls::theirs::Theirs;
 use runs::entries::Settings;
 use runs::random::Random;
 

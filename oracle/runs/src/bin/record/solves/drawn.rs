@@ -113,7 +113,7 @@ pub fn settings(random: &mut Random) -> Settings {
             random.one_of(&[0, 1, 2, 3, 50, 640]),
         ),
     };
-    Settings { alpha, epsilon, queue_threshold, max_pushes, adaptive_threshold }
+    Settings { alpha, epsilon, queue_threshold, max_pushes, adaptive_threshold, ..Settings::DEFAULT }
 }
 
 /// An end of a link, and one time in 4 any node.
@@ -175,6 +175,7 @@ pub fn watched(random: &mut Random, entry: Entry) -> Recorded {
         max_pushes: 20,
         queue_threshold: random.one_of(&[0.0, 1e-6]),
         adaptive_threshold: false,
+        ..Settings::DEFAULT
     };
     let steps = random.below(u64::from(n) - 1) as u32;
     let precision = random.one_of(&[1.0, 0.5]) / f64::from(2u32 << steps);
@@ -192,8 +193,14 @@ pub fn long(random: &mut Random, entry: Entry, adaptive: bool) -> Recorded {
     let near = random.one_of(&[0.9999, 0.9999, 1.0001]);
     let left = |pushes: u32| (0..pushes).fold(near, |left, _| left * (1.0 - alpha));
     let threshold = random.one_of(&[left(1_000), left(1_000), left(2_000), left(2_000) / 0.9]);
-    let settings =
-        Settings { alpha, epsilon: 0.0, max_pushes: 2_500, queue_threshold: threshold, adaptive_threshold: adaptive };
+    let settings = Settings {
+        alpha,
+        epsilon: 0.0,
+        max_pushes: 2_500,
+        queue_threshold: threshold,
+        adaptive_threshold: adaptive,
+        ..Settings::DEFAULT
+    };
     let (start, other) = (random.below(u64::from(n)) as u32, random.below(u64::from(n)) as u32);
     let (source, target) = ends(entry, start, other);
     let precision = random.one_of(&[1e-3, 1.0]);
@@ -204,8 +211,14 @@ pub fn long(random: &mut Random, entry: Entry, adaptive: bool) -> Recorded {
 /// A threshold at the floor below which it does not adapt, and the next one up, with a residual that meets it at the
 /// thousandth push.
 pub fn floor(entry: Entry, threshold: f64) -> Recorded {
-    let settings =
-        Settings { alpha: 0.02725, epsilon: 0.0, max_pushes: 2_500, queue_threshold: threshold, adaptive_threshold: true };
+    let settings = Settings {
+        alpha: 0.02725,
+        epsilon: 0.0,
+        max_pushes: 2_500,
+        queue_threshold: threshold,
+        adaptive_threshold: true,
+        ..Settings::DEFAULT
+    };
     let many = vec![0];
     let wish = Wish { source: 0, target: 0, many, precision: 2.0, settings, backward_settings: settings };
     Recorded::on_links(entry, 1, &[(0, 0, 1.0)], wish)

@@ -2,9 +2,8 @@
 use repaired::graph::PushGraph;
 use runs::calls::call::{Call, Wish};
 use runs::calls::entry::Entry;
-use runs::calls::given;
 use runs::calls::outcome::Outcome;
-use runs::calls::theirs::Theirs;
+use runs::calls::repaired::done;
 
 /// The lists that are read, as `Recorded` numbers them.
 pub const FIRST: usize = 0;
@@ -34,8 +33,8 @@ impl Recorded {
 
     /// What the Rust answers to a sound call.
     pub fn outcome(&self) -> Outcome {
-        let Call { entry: Entry::Solve(question, _), wish, .. } = &self.call else { unreachable!("a solve") };
-        Theirs::new(question.solver, given::graph(&self.call), wish).done(wish, *question)
+        let Entry::Solve(question, _) = self.call.entry else { unreachable!("a solve") };
+        done(&self.call, question)
     }
 
     /// The vectors of that answer.
