@@ -57,6 +57,22 @@ fn has_edge_and_edge_weight() {
     }
 }
 
+#[test]
+fn settings_with_other_adaptive_numbers() {
+    let rising = Settings {
+        adaptive_threshold: true,
+        adaptive_step: 1,
+        upper_size: 0,
+        lower_size: 0,
+        raising_factor: 4.0,
+        ..settings(10)
+    };
+    for (settings, pushes, remainder) in [(settings(10), 3, 0.125), (rising, 2, 0.25)] {
+        let solved = on_chain!(solve_single_source(0, settings));
+        assert_eq!((solved.push_count, solved.residual), (pushes, vec![0.0, remainder]));
+    }
+}
+
 /// Whether a push is still due at a node of the chain, where d is 1.
 fn is_due(remainder: f64, settings: Settings) -> bool {
     remainder >= settings.epsilon && remainder >= settings.queue_threshold
