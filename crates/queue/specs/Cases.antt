@@ -41,6 +41,15 @@ no-number : answer half nan out ≡ belowThreshold
 unfolding answer if_then_else_ half ofBits le
 no-number = refl
 
+-- nothing reaches a threshold that is a NaN, and a zero of either sign reaches one that is a zero of either sign
+no-threshold : answer nan one out ∷ answer nan (inf false) out ∷ [] ≡ belowThreshold ∷ belowThreshold ∷ []
+unfolding answer if_then_else_ ofBits le
+no-threshold = refl
+
+zero-threshold : answer -0 +0 out ∷ answer +0 -0 out ∷ [] ≡ entered ∷ entered ∷ []
+unfolding answer if_then_else_ -0 ofBits le
+zero-threshold = refl
+
 waits-already : answer half one (waits half) ≡ alreadyIn
 unfolding answer if_then_else_ half ofBits le
 waits-already = refl
@@ -119,17 +128,18 @@ by-sizes-zero : map (λ (size : ℕ). adapted (by-others 0 0 two half +0) size o
 unfolding adapted by-others if_then_else_ half two ofBits lt mul
 by-sizes-zero = refl
 
--- it falls from above the floor and not from it, whatever the fall: from 1 with the floor 1/2 it becomes 1/4, and with the floor 1 it stays
+-- it falls if it is above the floor, even to below it: from 1 with the floor 1/2 it becomes 1/4, and with a floor of 1 or 2 it stays
 by-floor : map (λ (floor : Float). adapted (by-others 3 2 two quarter floor) 0 one) (+0 ∷ half ∷ one ∷ two ∷ []) ≡ quarter ∷ quarter ∷ one ∷ one ∷ []
 unfolding adapted by-others if_then_else_ half quarter two ofBits lt mul
 by-floor = refl
 
--- a factor may leave it 0, and what is 0 stays
-to-zero : adapted (by-others 3 2 +0 +0 +0) 4 one ∷ adapted (by-others 3 2 two +0 +0) 1 one ∷ adapted (by-others 3 2 two half +0) 4 +0 ∷ adapted (by-others 3 2 two half +0) 1 +0 ∷ [] ≡ +0 ∷ +0 ∷ +0 ∷ +0 ∷ []
-unfolding adapted by-others if_then_else_ half two ofBits lt mul
+-- a factor may leave it 0 or -0, and what is 0 stays
+to-zero : adapted (by-others 3 2 +0 half +0) 4 one ∷ adapted (by-others 3 2 two +0 +0) 1 one ∷ adapted (by-others 3 2 -0 half +0) 4 one ∷ adapted (by-others 3 2 two half +0) 4 +0 ∷ adapted (by-others 3 2 two half +0) 1 +0 ∷ []
+    ≡ +0 ∷ +0 ∷ -0 ∷ +0 ∷ +0 ∷ []
+unfolding adapted by-others if_then_else_ -0 half two ofBits lt mul
 to-zero = refl
 
--- infinite: the largest number times itself, which falls no more; and infinity times 0 makes it a NaN, which stays
+-- it may become infinite, which a half of it still is; and infinity times 0 is a NaN, which stays one
 to-infinity : adapted (by-others 3 2 largest half +0) 4 largest ∷ adapted (by-others 3 2 two half +0) 1 (inf false) ∷ [] ≡ inf false ∷ inf false ∷ []
 unfolding adapted by-others if_then_else_ half two largest ofBits lt mul
 to-infinity = refl

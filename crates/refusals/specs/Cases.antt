@@ -106,13 +106,13 @@ unadapted-step-edge : map (λ (k : ℕ). refuseSettings (adapting false k 2 1 on
 unfolding refuseSettings refuseAlpha refuseAdaptive adapting _or_ _when_ le lt ofBits
 unadapted-step-edge = refl
 
--- upper and lower size: 1 above 2 gives 6; equal ones pass, of 0 too, and so does 2 above 1
+-- an upper size of 1 with a lower size of 2 gives 6; equal sizes pass, even 0, and so does 2 with 1
 size-edge : map (λ (sizes : ℕ × ℕ). refuseSettings (adapting false 1 (sizes .0) (sizes .1) one one one))
     ((1, 2) ∷ (2, 2) ∷ (0, 0) ∷ (2, 1) ∷ []) ≡ 6 ∷ 0 ∷ 0 ∷ 0 ∷ []
 unfolding refuseSettings refuseAlpha refuseAdaptive adapting _or_ _when_ le lt ofBits
 size-edge = refl
 
--- a factor of 0 or -0, either one, passes; the least below zero, NaN and infinity give 6; and so the floor
+-- the raising factor: 0 and -0 pass; the least below zero, NaN and infinity give 6; and so the lowering factor and the floor
 raising-edge : map (λ (x : Float). refuseSettings (adapting false 1 2 1 x one one)) (+0 ∷ -0 ∷ f64 0x8000_0000_0000_0001 ∷ nan ∷ inf false ∷ []) ≡ 0 ∷ 0 ∷ 6 ∷ 6 ∷ 6 ∷ []
 unfolding refuseSettings refuseAlpha refuseAdaptive adapting _or_ _when_ le lt ofBits -0
 raising-edge = refl

@@ -9,51 +9,33 @@ use rust::solver::backward_push::BackwardPushConfig;
 use rust::solver::forward_push::ForwardPushConfig;
 pub use theirs::{done, Run, Theirs};
 
-/// Settings as its forward solver takes them.
-pub fn forward_config(settings: &Settings) -> ForwardPushConfig {
-    ForwardPushConfig {
-        alpha: settings.alpha,
-        epsilon: settings.epsilon,
-        max_pushes: settings.max_pushes as usize,
-        queue_threshold: settings.queue_threshold,
-        adaptive_threshold: settings.adaptive_threshold,
-        adaptive_step: settings.adaptive_step as usize,
-        upper_size: settings.upper_size as usize,
-        lower_size: settings.lower_size as usize,
-        raising_factor: settings.raising_factor,
-        lowering_factor: settings.lowering_factor,
-        threshold_floor: settings.threshold_floor,
-    }
+/// Settings as one of its solvers takes them: both have the same fields.
+macro_rules! config {
+    ($config:ident, $settings:ident) => {
+        $config {
+            alpha: $settings.alpha,
+            epsilon: $settings.epsilon,
+            max_pushes: $settings.max_pushes as usize,
+            queue_threshold: $settings.queue_threshold,
+            adaptive_threshold: $settings.adaptive_threshold,
+            adaptive_step: $settings.adaptive_step as usize,
+            upper_size: $settings.upper_size as usize,
+            lower_size: $settings.lower_size as usize,
+            raising_factor: $settings.raising_factor,
+            lowering_factor: $settings.lowering_factor,
+            threshold_floor: $settings.threshold_floor,
+        }
+    };
 }
 
-/// The same as its backward solver takes them.
+/// As the forward solver takes them.
+pub fn forward_config(settings: &Settings) -> ForwardPushConfig {
+    config!(ForwardPushConfig, settings)
+}
+
+/// As the backward solver takes them.
 pub fn backward_config(settings: &Settings) -> BackwardPushConfig {
-    let ForwardPushConfig {
-        alpha,
-        epsilon,
-        max_pushes,
-        queue_threshold,
-        adaptive_threshold,
-        adaptive_step,
-        upper_size,
-        lower_size,
-        raising_factor,
-        lowering_factor,
-        threshold_floor,
-    } = forward_config(settings);
-    BackwardPushConfig {
-        alpha,
-        epsilon,
-        max_pushes,
-        queue_threshold,
-        adaptive_threshold,
-        adaptive_step,
-        upper_size,
-        lower_size,
-        raising_factor,
-        lowering_factor,
-        threshold_floor,
-    }
+    config!(BackwardPushConfig, settings)
 }
 
 /// The graph that the repaired Rust has made, as this copy has it: nothing of it is patched.
