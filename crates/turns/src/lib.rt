@@ -17,7 +17,7 @@ fn adapt(settings: Settings, pushes: u64, q: WorkQueue) -> WorkQueue
     requires { ⌜ Sound settings ⌝ }
     ensures { λ r. ⌜ Adapted settings pushes q r ⌝ }
 {
-    if settings.adaptive_threshold && pushes % settings.adaptive_step == 0 {
+    if settings.adaptive_threshold & (pushes % settings.adaptive_step == 0) {
         queue::held::adapt(q, settings)
     } else {
         q

@@ -1,7 +1,6 @@
 -- `turns::adapt` meets its contract: each return is the definition's case by the tests that led there. Assumes nothing.
 use Prim.Native.Nat.{ℕ, _%_}
 use mathlib.Core.Bool.{true, false, _&&_}
-use mathlib.Core.Logic.{⊎-elim}
 use mathlib.Core.Path.{_≡_, refl, _∙_}
 use lib.Dec.{eqb}
 use lib.Ieee.{Float}
@@ -24,8 +23,8 @@ module _ (settings : Settings) (pushes size : ℕ) (threshold : Float) where
   unfolding thresholdAfter if_then_else_
   stays e = rw e
 
-rem-if2 : tie.Need-rem-if2
-rem-if2 c = steps _ (c .before .before .pre)
+rem-if1 : tie.Need-rem-if1
+rem-if1 c = steps _ (c .before .pre)
 
 adapt-requires : tie.Need-adapt-requires
 adapt-requires c κs = search needs
@@ -33,17 +32,12 @@ adapt-requires c κs = search needs
 returns : tie.Need-returns
 returns c =
     let a = c .before .before .before .before .args in
-    record {
-      threshold-is = c .adapt .ensures .0 ∙ adapts (a .settings) (a .pushes) (a .q .size) (a .q .threshold) (rw (c .before .before .before .if1 .taken) (c .before .if2 .taken));
-      same-size = c .adapt .ensures .1;
-    }
+    record { threshold-is = c .adapt .ensures .0 ∙ adapts (a .settings) (a .pushes) (a .q .size) (a .q .threshold) (c .before .if1 .taken); same-size = c .adapt .ensures .1 }
 
 returns-2 : tie.Need-returns-2
 returns-2 c =
-    let a = c .before .args in
-    let rest = stays (a .settings) (a .pushes) (a .q .size) (a .q .threshold) in
-    ⊎-elim (λ w. record { threshold-is = rest (rw (w .0 .taken) (w .2 .left)); same-size = refl })
-    (λ w. record { threshold-is = rest (rw (w .left)); same-size = refl }) (c .if1 .came)
+    let a = c .before .before .before .args in
+    record { threshold-is = stays (a .settings) (a .pushes) (a .q .size) (a .q .threshold) (c .if1 .left); same-size = refl }
 
 pub adapt-spec : {M : Type 1} → statement M
-adapt-spec = tie.close (tie.spec rem-if2 adapt-requires returns returns-2)
+adapt-spec = tie.close (tie.spec rem-if1 adapt-requires returns returns-2)
