@@ -1,6 +1,6 @@
 //! What the Rust answers where the proved library refuses: a small example for each reason, made on both sides, as the table that
 //! docs/DIFFERENCES.md has. The gate holds the two together.
-use runs::calls::call::{Call, Wish};
+use runs::calls::call::{Call, Wish, CHAIN_SETTINGS as SETTINGS};
 use runs::calls::entry::{Entry, Form, Question, Solver, Task};
 use runs::calls::extended::{Run, Theirs};
 use runs::calls::given;
@@ -12,15 +12,6 @@ use runs::entries::{Built, Found, Scored, Settings, Solved, Weighed};
 use std::panic::{catch_unwind, set_hook};
 
 const FORWARD: Solver = Solver::Forward;
-/// Those of the chain in docs/RULES.md.
-const SETTINGS: Settings = Settings {
-    alpha: 0.5,
-    epsilon: 0.25,
-    queue_threshold: 0.25,
-    max_pushes: 10,
-    adaptive_threshold: false,
-    ..Settings::DEFAULT
-};
 /// Every node is queued, and every node that is popped is pushed.
 const ALL_PUSHED: Settings = Settings { epsilon: 0.0, queue_threshold: 0.0, max_pushes: 2, ..SETTINGS };
 /// Every node that is popped is pushed, and the threshold adapts each time.

@@ -43,6 +43,9 @@ pub const PLAIN_SETTINGS: Settings = Settings {
     ..Settings::DEFAULT
 };
 
+/// The settings of the chain in docs/RULES.md.
+pub const CHAIN_SETTINGS: Settings = Settings { epsilon: 0.25, queue_threshold: 0.25, ..PLAIN_SETTINGS };
+
 /// The adaptive numbers of a settings record, to be compared: the step, both sizes, and the bits of both factors and of the floor.
 pub fn adaptive_numbers(settings: &Settings) -> (u64, [u32; 2], [u64; 3]) {
     let amounts = [settings.raising_factor, settings.lowering_factor, settings.threshold_floor];

@@ -5,7 +5,7 @@ use super::input::Input;
 use crate::calls::sound::{sound, with_links, with_nodes};
 use crate::calls::wishes::next_up;
 use crate::calls::{limits, wishes};
-use runs::calls::call::{Call, Wish};
+use runs::calls::call::{Call, Wish, CHAIN_SETTINGS};
 use runs::calls::entry::{Entry, Form};
 use runs::calls::repaired;
 use runs::entries::Settings;
@@ -45,16 +45,8 @@ pub fn sizes() -> Vec<Input> {
 
 /// The sums and edges that docs/RULES.md does by hand, each with its text.
 pub fn by_hand() -> Vec<(Input, String)> {
-    let settings = Settings {
-        alpha: 0.5,
-        epsilon: 0.25,
-        queue_threshold: 0.25,
-        max_pushes: 10,
-        adaptive_threshold: false,
-        ..Settings::DEFAULT
-    };
     let plain = || {
-        let wish = Wish { many: vec![0], settings, ..Wish::default() };
+        let wish = Wish { many: vec![0], settings: CHAIN_SETTINGS, ..Wish::default() };
         Call::on_links(2, &[(0, 1, 1.0)]).solving(QUESTION).wishing(wish)
     };
     let changed = |act: &dyn Fn(&mut Call)| {
@@ -64,7 +56,7 @@ pub fn by_hand() -> Vec<(Input, String)> {
     };
     let set = |act: &dyn Fn(&mut Settings)| changed(&|call| act(&mut call.wish.settings));
     let fork = Call::on_links(3, &[(0, 1, 1.0), (0, 2, 1.0)]).solving(QUESTION);
-    let fork = fork.wishing(Wish { many: vec![0], settings: Settings { max_pushes: 2, ..settings }, ..Wish::default() });
+    let fork = fork.wishing(Wish { many: vec![0], settings: Settings { max_pushes: 2, ..CHAIN_SETTINGS }, ..Wish::default() });
     let chain = text_of(3, 2, 0.125, &[(0.5, 0.0), (0.375, 0.125)]);
     let nothing_pushed = text_of(0, 0, 1.0, &[(0.0, 1.0), (0.0, 0.0)]);
     let refused = |number: u32| format!("refused {number}\n");
