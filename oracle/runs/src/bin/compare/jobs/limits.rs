@@ -56,7 +56,8 @@ pub fn by_hand() -> Vec<(Input, String)> {
     };
     let set = |act: &dyn Fn(&mut Settings)| changed(&|call| act(&mut call.wish.settings));
     let fork = Call::on_links(3, &[(0, 1, 1.0), (0, 2, 1.0)]).solving(QUESTION);
-    let fork = fork.wishing(Wish { many: vec![0], settings: Settings { max_pushes: 2, ..CHAIN_SETTINGS }, ..Wish::default() });
+    let fork =
+        fork.wishing(Wish { many: vec![0], settings: Settings { max_pushes: 2, ..CHAIN_SETTINGS }, ..Wish::default() });
     let chain = text_of(3, 2, 0.125, &[(0.5, 0.0), (0.375, 0.125)]);
     let nothing_pushed = text_of(0, 0, 1.0, &[(0.0, 1.0), (0.0, 0.0)]);
     let refused = |number: u32| format!("refused {number}\n");
