@@ -242,11 +242,11 @@ pub record Worked : Type 0 where
   -- the threshold adapts at the thousandth push, and not before: × 0.9, since nobody waits
   pub adapts : counted adaptive 0 (after 999) .threshold ≡ f64 0x3fcc_cccc_cccc_cccd
   pub adapts-not : counted adaptive 0 (after 998) .threshold ≡ quarter
-  -- with a step of 7 it adapts at the seventh and the fourteenth push, with a step of 1 at each, and with another mode at none
+  -- with a step of 7 it adapts at the seventh and the fourteenth push, with a step of 1 at each, and at none if the settings are not adaptive
   pub adapts-by-sevens : stepping (adapting true quarter 7 1 1 two half +0) ≡ quarter ∷ eighth ∷ quarter ∷ eighth ∷ []
   pub adapts-each-time : stepping (adapting true quarter 1 1 1 two half +0) ≡ eighth ∷ eighth ∷ eighth ∷ eighth ∷ []
   pub adapts-never : stepping (adapting false quarter 1 1 1 two half +0) ≡ quarter ∷ quarter ∷ quarter ∷ quarter ∷ []
-  -- P1, and after each push the threshold is halved: 1/8, 1/16 and so on lets node 1 in until epsilon skips it; a floor of 1/8 ends that after one
+  -- P1, and after each push the threshold is halved: 1/8, 1/16 and so on, which lets node 1 in until epsilon skips it. A floor of 1/8 allows one halving
   pub falls-freely : shown (solved pushForward 2 (chain one) (adapting true sixty-fourth 1 2 2 two half +0) (0 ∷ [])) ≡ ending 7 2 (half ∷ f64 0x3fdf_8000_0000_0000 ∷ []) (+0 ∷ f64 0x3f80_0000_0000_0000 ∷ [])
   pub falls-to-the-floor : shown (solved pushForward 2 (chain one) (adapting true sixty-fourth 1 2 2 two half eighth) (0 ∷ [])) ≡ ending 4 2 (half ∷ f64 0x3fdc_0000_0000_0000 ∷ []) (+0 ∷ f64 0x3fb0_0000_0000_0000 ∷ [])
   -- the statement for the stop: with pushes left nothing is due, though something is left over at node 1: 1/8, which is below both bars (P1), 1/2 below an
