@@ -91,9 +91,9 @@ unfolding refuseSettings refuseAlpha
 alpha-within s h = not-false _ (when-zero 5 _ (or-zero _ _ h .0))
 
 -- and the step
-pub steps : (s : Settings) → Sound s → 0 < s .«adaptive_step»
+pub step-above-zero : (s : Settings) → Sound s → 0 < s .«adaptive_step»
 unfolding refuseSettings refuseAdaptive
-steps s h =
+step-above-zero s h =
     let floor = neither _ _ (when-zero 5 _ (or-zero _ _ (or-zero _ _ h .1) .1)) in
     let lowering = neither _ _ (floor .0) in
     let raising = neither _ _ (lowering .0) in

@@ -6,7 +6,7 @@ use lib.Dec.{eqb}
 use lib.Ieee.{Float}
 use Rattle.numbers.specs.Choice.{if_then_else_}
 use Rattle.refusals.specs.declared.Settings.{Settings}
-use Rattle.refusals.proofs.Laws.{steps}
+use Rattle.refusals.proofs.Laws.{step-above-zero}
 use Rattle.queue.specs.Waiting.{adapted}
 use Rattle.rules.specs.Rules.{thresholdAfter}
 use borrow.Author.Needs.{needs}
@@ -24,7 +24,7 @@ module _ (settings : Settings) (pushes size : ℕ) (threshold : Float) where
   stays e = rw e
 
 rem-if1 : tie.Need-rem-if1
-rem-if1 c = steps _ (c .before .pre)
+rem-if1 c = step-above-zero _ (c .before .pre)
 
 adapt-requires : tie.Need-adapt-requires
 adapt-requires c κs = search needs
