@@ -62,9 +62,9 @@
 #include <stdint.h>
 
 /* CHANGELOG.md, in the repository, says what each version changed. */
-#define TALWIGHEST_VERSION "0.5.0"
+#define TALWIGHEST_VERSION "0.4.0"
 #define TALWIGHEST_VERSION_MAJOR 0
-#define TALWIGHEST_VERSION_MINOR 5
+#define TALWIGHEST_VERSION_MINOR 4
 #define TALWIGHEST_VERSION_PATCH 0
 
 #ifdef __cplusplus
@@ -109,16 +109,12 @@ struct talwighest_settings {
     double raising_factor;
     double lowering_factor;
     double threshold_floor;
-    bool divide_by_out_degree;
-                             /* what a backward push divides the weight of a link by. If 0: by the out-degree of the node that
-                                the link leaves, or by 1 if that is below 1. If 1: by that out-degree, and if it is 0, the
-                                push adds +0 there. A forward solve makes no use of it. Must hold 0 or 1 */
 };
 
 /* The settings of the Rust that the library is compared with, to start from. Change what you need:
      struct talwighest_settings settings = TALWIGHEST_DEFAULT_SETTINGS;
      settings.alpha = 0.5; */
-#define TALWIGHEST_DEFAULT_SETTINGS {0.15, 1e-6, 1e-8, 1000000, true, 1000, 10000, 100, 1.1, 0.9, 1e-12, false}
+#define TALWIGHEST_DEFAULT_SETTINGS {0.15, 1e-6, 1e-8, 1000000, true, 1000, 10000, 100, 1.1, 0.9, 1e-12}
 
 /* What a solve returns. */
 struct talwighest_solved {

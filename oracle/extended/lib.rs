@@ -3,7 +3,6 @@
 #![allow(unused_imports, dead_code)]
 
 pub mod adaptions;
-pub mod divisions;
 
 #[path = "../../target/oracle/extended/src/graph/mod.rs"]
 pub mod graph;

@@ -1,16 +1,18 @@
 //! The examples of docs/ENTRIES.md, those that take a graph in both forms.
 mod chain;
 
-use chain::{backward, forward, in_both_forms, settings, CHAIN, CHAIN_ROWS};
+use chain::{backward, forward, settings, CHAIN, CHAIN_ROWS};
 use talwighest::entries::{self, Built, Found, RowBuffers, Weighed};
 use talwighest::{combine_with_forward, compute_residual_norm, extrapolated_solution, square_root};
 use talwighest::{Links, Matrix, OwnedRows, Settings};
 
 /// What both forms of a call on the chain give.
 macro_rules! on_chain {
-    ($($call:tt)*) => {
-        in_both_forms!(CHAIN, CHAIN_ROWS, $($call)*)
-    };
+    ($call:ident($($given:expr),*)) => {{
+        let answer = CHAIN.$call($($given),*);
+        assert_eq!(answer, CHAIN_ROWS.$call($($given),*));
+        answer.unwrap()
+    }};
 }
 
 #[test]
@@ -68,20 +70,6 @@ fn settings_with_other_adaptive_numbers() {
     for (settings, pushes, remainder) in [(settings(10), 3, 0.125), (rising, 2, 0.25)] {
         let solved = on_chain!(solve_single_source(0, settings));
         assert_eq!((solved.push_count, solved.residual), (pushes, vec![0.0, remainder]));
-    }
-}
-
-#[test]
-fn small_weights_under_both_division_rules() {
-    let ring = Links { n: 3, from: &[0, 1, 2], to: &[1, 2, 0], weight: &[0.25, 0.5, 0.125] };
-    let rows = ring.from_edges().unwrap();
-    let by_default = Settings { alpha: 0.5, max_pushes: 3, ..Settings::default() };
-    let by_out_degree = Settings { divide_by_out_degree: true, ..by_default };
-    assert_eq!(ring.solve_single_source(0, by_default).unwrap().estimate, [0.5, 0.25, 0.125]);
-    for (settings, scores) in [(by_out_degree, [0.125, 0.25, 0.5]), (by_default, [0.015625, 0.125, 0.5])] {
-        let solved = ring.solve_single_target(2, settings);
-        assert_eq!(rows.rows().solve_single_target(2, settings), solved);
-        assert_eq!(solved.unwrap().estimate, scores);
     }
 }
 

@@ -23,12 +23,12 @@ module _ (n : ℕ) (s : Settings) (steady : Steady s) where
 
   module _ (from to : List ℕ) (weight : List Float) (b : LinksLent BackLent) {x : Outcome Solved (LinksLent BackLent)} where
     pub single_target_links_stopped : (target : ℕ) → solve_single_target (given_links reversing n from to weight b) target s x → x.answer.refusal ≡ 0 → x.answer.push_count < s.max_pushes
-        → NothingDue (over_links s push_backward n (links_of from to weight)) s n x.lent.rest.solve.residual
+        → NothingDue (over_links push_backward n (links_of from to weight)) s n x.lent.rest.solve.residual
     unfolding given_links
     single_target_links_stopped target = nothing_left_due (links_vectors backward_vectors n from to weight b) push_backward s steady (target ∷ [])
 
     pub multi_target_links_stopped : (targets : List ℕ) → solve_multi_target (given_links reversing n from to weight b) targets s x → x.answer.refusal ≡ 0 → x.answer.push_count < s.max_pushes
-        → NothingDue (over_links s push_backward n (links_of from to weight)) s n x.lent.rest.solve.residual
+        → NothingDue (over_links push_backward n (links_of from to weight)) s n x.lent.rest.solve.residual
     unfolding given_links
     multi_target_links_stopped targets = nothing_left_due (links_vectors backward_vectors n from to weight b) push_backward s steady targets
 
@@ -36,11 +36,11 @@ module _ (n : ℕ) (s : Settings) (steady : Steady s) where
 
   module _ (starts columns : List ℕ) (weights : List Float) (b : BackLent) {x : Outcome Solved BackLent} where
     pub single_target_rows_stopped : (target : ℕ) → solve_single_target (given_rows reversing n starts columns weights b) target s x → x.answer.refusal ≡ 0 → x.answer.push_count < s.max_pushes
-        → NothingDue (over s push_backward n (rows_in n starts columns weights)) s n x.lent.solve.residual
+        → NothingDue (over push_backward n (rows_in n starts columns weights)) s n x.lent.solve.residual
     unfolding given_rows
     single_target_rows_stopped target = nothing_left_due (rows_vectors backward_vectors n starts columns weights b) push_backward s steady (target ∷ [])
 
     pub multi_target_rows_stopped : (targets : List ℕ) → solve_multi_target (given_rows reversing n starts columns weights b) targets s x → x.answer.refusal ≡ 0 → x.answer.push_count < s.max_pushes
-        → NothingDue (over s push_backward n (rows_in n starts columns weights)) s n x.lent.solve.residual
+        → NothingDue (over push_backward n (rows_in n starts columns weights)) s n x.lent.solve.residual
     unfolding given_rows
     multi_target_rows_stopped targets = nothing_left_due (rows_vectors backward_vectors n starts columns weights b) push_backward s steady targets

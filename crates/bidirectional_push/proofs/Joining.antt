@@ -18,7 +18,7 @@ use Rattle.refusals.proofs.Laws.{refused, accepted}
 use Rattle.graph.specs.Rows.{Entry, links_of, rows_of, rows_in, degree, transposed}
 use Rattle.graph.specs.Store.{Rowed, Compressed}
 use Rattle.graph.proofs.Back.{held_rowed, held_rows}
-use Rattle.rules.specs.Ways.{Way, push_forward, push_backward, over, row_at}
+use Rattle.rules.specs.Ways.{Way, push_forward, push_backward, way_of, over, row_at, degree_of}
 use Rattle.rules.specs.Rules.{State, unwatched, blank, inside, watchable, begun, solve, at}
 use Rattle.rules.specs.Answers.{Method, neither, backward_alone, forward_alone, both, method_among, method, score_at, answer_by}
 use Rattle.rules.proofs.Starts.{solve_nothing}
@@ -75,13 +75,13 @@ pub record Leaves (n : ℕ) (used : Bool) (z : State) (estimate residual priorit
 module _ {n : ℕ} {is_backward : Bool} {rows : List (List Entry)} {starts columns columns' : List ℕ} {weights weights' degrees out_degrees : List Float}
     (z : Directed n is_backward rows starts columns columns' weights weights' degrees out_degrees) (s : Settings) (v : ℕ) (used : Bool) where
   pub solve_leaves : {sources : List ℕ} {r : Counted} {estimate residual priorities : List Float} {nodes queued visited : List ℕ} → sources ≡ (if used then v ∷ [] else [])
-      → SolveSettled (Stands (length degrees) is_backward s.divide_by_out_degree (lists_of starts columns columns' weights weights' degrees out_degrees)) (λ way. solve way s unwatched (length degrees) sources) (length degrees)
+      → SolveSettled (Stands (length degrees) is_backward (lists_of starts columns columns' weights weights' degrees out_degrees)) (λ way. solve way s unwatched (length degrees) sources) (length degrees)
       r estimate residual priorities nodes queued visited
-      → Leaves n used (solve (over s is_backward n rows) s unwatched n (v ∷ [])) estimate residual priorities nodes queued visited
+      → Leaves n used (solve (over is_backward n rows) s unwatched n (v ∷ [])) estimate residual priorities nodes queued visited
   solve_leaves e d =
       let h = rw (degrees_long z, e) at d in
-      let way = over s is_backward n rows in
-      let m = stands_over s n is_backward rows (lists_of starts columns columns' weights weights' degrees out_degrees) z.rowed z.rows_are z.out_degrees_are in
+      let way = over is_backward n rows in
+      let m = stands_over n is_backward rows (lists_of starts columns columns' weights weights' degrees out_degrees) z.rowed z.rows_are z.out_degrees_are in
       record {
         estimate_is = h.estimate_is way m ∙ started_estimate way s n v used;
         residual_is = h.residual_is way m ∙ started_residual way s n v used;
@@ -101,7 +101,7 @@ module _ {n : ℕ} {starts columns reverse_starts reverse_columns : List ℕ} {w
 
   -- so the method by degrees is the rules'
   pub method_is : (source target : ℕ) → method_among n (at out_degrees) (at in_degrees) source target ≡ method n (rows_in n starts columns weights) source target
-  unfolding method_among method if◌then◌else◌
+  unfolding method_among method degree_of over way_of if◌then◌else◌
   method_is source target = go (ltb source n && ltb target n) refl
     where
       go : (b : Bool) → (ltb source n && ltb target n) ≡ b → method_among n (at out_degrees) (at in_degrees) source target ≡ method n (rows_in n starts columns weights) source target
@@ -127,8 +127,8 @@ score_is both u alpha n source target b f w p q r s l = rw (w.forward_is, w.back
 -- what both solves of rows leave, with the workspace cleared
 pub joined_left : (n source target : ℕ) (starts columns : List ℕ) (weights : List Float) (b₀ : BothLent) (sf sb : Settings) (adaptive : Bool) (u : Uses) {r : Float}
     {fe fr be br reverse_weights out_degrees in_degrees priorities other_priorities : List Float} {reverse_starts reverse_columns nodes queued visited other_nodes other_queued other_visited : List ℕ} → Follows u (method_for adaptive (method n (rows_in n starts columns weights) source target))
-    → Leaves n u.forward (solve (over sf push_forward n (rows_in n starts columns weights)) sf unwatched n (source ∷ [])) fe fr other_priorities other_nodes other_queued other_visited
-    → Leaves n u.backward (solve (over sb push_backward n (rows_in n starts columns weights)) sb unwatched n (target ∷ [])) be br priorities nodes queued visited
+    → Leaves n u.forward (solve (over push_forward n (rows_in n starts columns weights)) sf unwatched n (source ∷ [])) fe fr other_priorities other_nodes other_queued other_visited
+    → Leaves n u.backward (solve (over push_backward n (rows_in n starts columns weights)) sb unwatched n (target ∷ [])) be br priorities nodes queued visited
     → r ≡ score_by u sb.alpha source target be br fe fr → length be ≡ n → reverse_starts ≡ replicate (n + 1) 0 → reverse_columns ≡ replicate (length columns) 0
     → reverse_weights ≡ replicate (length columns) +0 → out_degrees ≡ replicate n +0 → in_degrees ≡ replicate n +0
     → Joins adaptive (given_rows joining n starts columns weights b₀) source target sf sb
@@ -136,8 +136,8 @@ pub joined_left : (n source target : ℕ) (starts columns : List ℕ) (weights :
 unfolding joined pairs_by given_rows ends back_done solve_done
 joined_left n source target starts columns weights b₀ sf sb adaptive u w x y e l rs rc rv o i =
     let m = method_for adaptive (method n (rows_in n starts columns weights) source target) in
-    let f = solve (over sf push_forward n (rows_in n starts columns weights)) sf unwatched n (source ∷ []) in
-    let b = solve (over sb push_backward n (rows_in n starts columns weights)) sb unwatched n (target ∷ []) in
+    let f = solve (over push_forward n (rows_in n starts columns weights)) sf unwatched n (source ∷ []) in
+    let b = solve (over push_backward n (rows_in n starts columns weights)) sb unwatched n (target ∷ []) in
     let fe = x.estimate_is ∙ ap (λ (used : Bool). where_used used n f.estimate) w.forward_is in
     let fr = x.residual_is ∙ ap (λ (used : Bool). where_used used n f.residual) w.forward_is in
     let be = y.estimate_is ∙ ap (λ (used : Bool). where_used used n b.estimate) w.backward_is in
@@ -160,8 +160,8 @@ unfolding joined given_rows given_links ends
 links_joined n source target adaptive from to weight l sf sb b h e d s c w =
     let leaves : List (List Entry) → Outcome Float BothLent = λ rows.
     let m = method_for adaptive (method n rows source target) in
-    let f = solve (over sf push_forward n rows) sf unwatched n (source ∷ []) in
-    let t = solve (over sb push_backward n rows) sb unwatched n (target ∷ []) in
+    let f = solve (over push_forward n rows) sf unwatched n (source ∷ []) in
+    let t = solve (over push_backward n rows) sb unwatched n (target ∷ []) in
     outcome_of (answer_by m sb.alpha n source target t f) (joining.done n (length from) (pairs_by m n t f)) in
     record { leaves = made_left leaves h (rw e at d.leaves) s c w }
 

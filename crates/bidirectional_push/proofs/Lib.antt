@@ -1,5 +1,4 @@
--- The laws that the proofs of the bidirectional solver share, and the theorems on its calls: each has one outcome, demand 3 of what is left, and whose division rule counts.
+-- The laws that the proofs of the bidirectional solver share, and the theorems on its calls: each has one outcome, and demand 3 of what is left.
 pub mod Joining
 pub mod OneBidirectionalOutcome
 pub mod UnreachedInPairs
-pub mod EitherRuleInPairs

@@ -79,11 +79,11 @@ module _ {n : ℕ} {backward : Bool} {rows : List (List Entry)} {starts columns 
   fits_still f = rw degrees_long (record { listed = f.listed; room = f.room; degrees_long = degrees_long; queued_long = f.queued_long; visited_long = f.visited_long })
 
   module _ (settings : Settings) (watch : Watch) (sources : List ℕ) {r : Counted} {estimate residual priorities : List Float} {nodes queued visited : List ℕ}
-      (d : SolveSettled (Stands (length degrees) backward settings.divide_by_out_degree (lists_of starts columns columns' weights weights' degrees out_degrees)) (λ way. solve way settings watch (length degrees) sources) (length degrees)
+      (d : SolveSettled (Stands (length degrees) backward (lists_of starts columns columns' weights weights' degrees out_degrees)) (λ way. solve way settings watch (length degrees) sources) (length degrees)
       r estimate residual priorities nodes queued visited) where
     -- what it leaves, with the degrees cleared
-    pub directed_left : {cleared : List Float} → cleared ≡ replicate n +0 → let s = solve (over settings backward n rows) settings watch n sources in
+    pub directed_left : {cleared : List Float} → cleared ≡ replicate n +0 → let s = solve (over backward n rows) settings watch n sources in
         outcome_of r (solve_lent estimate residual cleared priorities nodes queued visited) ≡ outcome_of (counted_in s) (solve_done n s.estimate s.residual)
     directed_left c =
-        settled_left (rw degrees_long at d) c (over settings backward n rows)
-        (stands_over settings n backward rows (lists_of starts columns columns' weights weights' degrees out_degrees) z.rowed z.rows_are z.out_degrees_are)
+        settled_left (rw degrees_long at d) c (over backward n rows)
+        (stands_over n backward rows (lists_of starts columns columns' weights weights' degrees out_degrees) z.rowed z.rows_are z.out_degrees_are)

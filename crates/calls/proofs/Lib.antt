@@ -12,5 +12,4 @@ pub mod Links
 pub mod Done
 pub mod UnreachedInCalls
 pub mod StoppedInCalls
-pub mod EitherRuleInCalls
 pub mod Queries

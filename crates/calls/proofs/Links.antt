@@ -36,5 +36,5 @@ pub links_settle : {B : Type 0} (k : Lending State B) (backward : Bool) {n j : �
     → Settles backward (given_links k n from to weight l) settings watch sources (outcome_of r (links_lent starts' columns' weights' b'))
 unfolding given_rows given_links ends
 links_settle k backward {n} from to weight l settings watch sources b h e d s c w =
-    let f : List (List Entry) → Outcome Counted _ = λ rows. let z = solve (over settings backward n rows) settings watch n sources in outcome_of (counted_in z) (k.done n (length from) z) in
+    let f : List (List Entry) → Outcome Counted _ = λ rows. let z = solve (over backward n rows) settings watch n sources in outcome_of (counted_in z) (k.done n (length from) z) in
     record { leaves = made_left f h (rw e at d.leaves) s c w }

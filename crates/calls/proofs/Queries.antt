@@ -53,7 +53,7 @@ unconnected_score {g = g} {n = n} shown backward settings v w off = go (dec_lt w
 
     -- are as many as the nodes
     long : length scores ≡ n
-    long = (solve_spans (over settings backward g.nodes g.rows) settings unwatched g.nodes (v ∷ [])).estimate_long ∙ shown.nodes_are
+    long = (solve_spans (over backward g.nodes g.rows) settings unwatched g.nodes (v ∷ [])).estimate_long ∙ shown.nodes_are
 
     go : Dec (w < n) → get_or scores w +0 ≡ +0
     go (yes l) = other_default scores w +0 nan (rw long l) ∙ (untouched_ends shown backward settings unwatched (v ∷ []) w l (off l)).score

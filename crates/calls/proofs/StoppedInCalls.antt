@@ -18,8 +18,8 @@ use Rattle.calls.proofs.Done.{done_leaves, left_residual}
 -- Nothing is still due, by the degrees of the rows that the call is given.
 pub nothing_left_due : {B : Type 0} {g : Given State B} (w : LeftVectors g) (backward : Bool) (settings : Settings) → Steady settings → (list : List ℕ) {number : ℕ} {x : Outcome Solved B}
     → Solves number g (ends backward g settings unwatched list) x → x.answer.refusal ≡ 0 → x.answer.push_count < settings.max_pushes
-    → NothingDue (over settings backward g.nodes g.rows) settings g.nodes (w.residual_of x.lent)
+    → NothingDue (over backward g.nodes g.rows) settings g.nodes (w.residual_of x.lent)
 unfolding ends
 nothing_left_due {B} {g} w backward settings steady list z done left =
     rw (left_residual z done w)
-    (nothing_due (over settings backward g.nodes g.rows) settings steady g.nodes list (rw (ap (λ (y : Outcome Solved B). y.answer.push_count) (done_leaves z done)) at left))
+    (nothing_due (over backward g.nodes g.rows) settings steady g.nodes list (rw (ap (λ (y : Outcome Solved B). y.answer.push_count) (done_leaves z done)) at left))

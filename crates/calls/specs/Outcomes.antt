@@ -53,7 +53,7 @@ given_rows k n starts columns weights b =
 
 -- the state that a solve in a direction ends in
 unfoldable pub ends : {S B : Type 0} → Bool → Given S B → Settings → Watch → List ℕ → State
-ends backward g s watch sources = solve (over s backward g.nodes g.rows) s watch g.nodes sources
+ends backward g s watch sources = solve (over backward g.nodes g.rows) s watch g.nodes sources
 
 -- ---- what it leaves, by its first number and the state that its solve ends in
 

@@ -193,7 +193,7 @@ pub fn solve_settled<'a>(
 ) -> Counted
     requires { Rows (length degrees.now) backward (lists_in starts columns reverse_columns weights reverse_weights degrees out_degrees)
         × Fits (length degrees.now) sources.now (solve_lent estimate.old residual.old degrees.now priorities.old nodes.old queued.old visited.old) × Sound settings }
-    ensures { SolveSettled (Stands (length degrees.now) backward settings.divide_by_out_degree (lists starts columns reverse_columns weights reverse_weights degrees out_degrees))
+    ensures { SolveSettled (Stands (length degrees.now) backward (lists starts columns reverse_columns weights reverse_weights degrees out_degrees))
         (λ way. Rules.solve way settings (watch_in watch) (length degrees.now) sources.now)
         (length degrees.now) result estimate.new residual.new priorities.new nodes.new queued.new visited.new }
 {

@@ -21,12 +21,12 @@ module _ (n : ℕ) (s : Settings) (steady : Steady s) where
 
   module _ (from to : List ℕ) (weight : List Float) (b : LinksLent SolveLent) {x : Outcome Solved (LinksLent SolveLent)} where
     pub single_source_links_stopped : (source : ℕ) → solve_single_source (given_links solving n from to weight b) source s x → x.answer.refusal ≡ 0 → x.answer.push_count < s.max_pushes
-        → NothingDue (over_links s push_forward n (links_of from to weight)) s n x.lent.rest.residual
+        → NothingDue (over_links push_forward n (links_of from to weight)) s n x.lent.rest.residual
     unfolding given_links
     single_source_links_stopped source = nothing_left_due (links_vectors forward_vectors n from to weight b) push_forward s steady (source ∷ [])
 
     pub multi_source_links_stopped : (sources : List ℕ) → solve_multi_source (given_links solving n from to weight b) sources s x → x.answer.refusal ≡ 0 → x.answer.push_count < s.max_pushes
-        → NothingDue (over_links s push_forward n (links_of from to weight)) s n x.lent.rest.residual
+        → NothingDue (over_links push_forward n (links_of from to weight)) s n x.lent.rest.residual
     unfolding given_links
     multi_source_links_stopped sources = nothing_left_due (links_vectors forward_vectors n from to weight b) push_forward s steady sources
 
@@ -34,11 +34,11 @@ module _ (n : ℕ) (s : Settings) (steady : Steady s) where
 
   module _ (starts columns : List ℕ) (weights : List Float) (b : SolveLent) {x : Outcome Solved SolveLent} where
     pub single_source_rows_stopped : (source : ℕ) → solve_single_source (given_rows solving n starts columns weights b) source s x → x.answer.refusal ≡ 0 → x.answer.push_count < s.max_pushes
-        → NothingDue (over s push_forward n (rows_in n starts columns weights)) s n x.lent.residual
+        → NothingDue (over push_forward n (rows_in n starts columns weights)) s n x.lent.residual
     unfolding given_rows
     single_source_rows_stopped source = nothing_left_due (rows_vectors forward_vectors n starts columns weights b) push_forward s steady (source ∷ [])
 
     pub multi_source_rows_stopped : (sources : List ℕ) → solve_multi_source (given_rows solving n starts columns weights b) sources s x → x.answer.refusal ≡ 0 → x.answer.push_count < s.max_pushes
-        → NothingDue (over s push_forward n (rows_in n starts columns weights)) s n x.lent.residual
+        → NothingDue (over push_forward n (rows_in n starts columns weights)) s n x.lent.residual
     unfolding given_rows
     multi_source_rows_stopped sources = nothing_left_due (rows_vectors forward_vectors n starts columns weights b) push_forward s steady sources

@@ -11,7 +11,7 @@ use Rattle.refusals.specs.Refusals.{◌or◌, ◌when◌, lengths_differ, refuse
 use Rattle.marks.specs.Marks.{how_many}
 use Rattle.graph.specs.Rows.{kept, gives, row_of, rows_of, links_of, sum_from, degree}
 use Rattle.queue.specs.Waiting.{taken, answer, offered, better, best_from, next, adapted}
-use Rattle.rules.specs.Ways.{effective, share_of, way_of, over, degree_of}
+use Rattle.rules.specs.Ways.{effective, transition, share_of, way_of, over, degree_of}
 use Rattle.rules.specs.Rules.{each, blank, queued, gain, absorb, threshold_after, counted, offer, pass, hand_out, push, stops, goes_on, due, skips, visit, turn, onward, run}
 use Rattle.rules.specs.Rules.{inside, watchable, begun, start, enough, solve}
 use Rattle.rules.specs.Answers.{visited_count}
@@ -50,7 +50,7 @@ pub record Printed : Type 0 where
 
 -- the list holds
 pub printed : Printed
-unfolding chain_text if◌then◌else◌ tabulate how_many kept gives row_of rows_of links_of sum_from degree taken answer offered better best_from next usual adapted effective share_of way_of over degree_of each blank queued gain absorb threshold_after counted offer pass hand_out push stops goes_on due skips visit turn onward run inside watchable begun start enough solve any lengths_differ visited_count add_squares of_bits to_bits of_int add sub mul div lt le odd chain_job shaped number word_at float_at words_at floats_at settings_in job_in refusal end refused_or ◌or◌ ◌when◌ refuse_nodes refuse_links refuse_listed refuse_lengths refuse_weights refuse_alpha refuse_adaptive refuse_settings digit_count decimal bits refused_line done_line node_line node_lines
+unfolding chain_text if◌then◌else◌ tabulate how_many kept gives row_of rows_of links_of sum_from degree taken answer offered better best_from next usual adapted effective transition share_of way_of over degree_of each blank queued gain absorb threshold_after counted offer pass hand_out push stops goes_on due skips visit turn onward run inside watchable begun start enough solve any lengths_differ visited_count add_squares of_bits to_bits of_int add sub mul div lt le odd chain_job shaped number word_at float_at words_at floats_at settings_in job_in refusal end refused_or ◌or◌ ◌when◌ refuse_nodes refuse_links refuse_listed refuse_lengths refuse_weights refuse_alpha refuse_adaptive refuse_settings digit_count decimal bits refused_line done_line node_line node_lines
 printed =
     record {
       chain =

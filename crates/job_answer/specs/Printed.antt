@@ -47,7 +47,7 @@ refusal j = link_tests j.nodes (length j.from) (length j.sources) [] j.weight or
 
 -- the state that the solve ends in
 unfoldable pub end : Job → State
-end j = solve (over j.given push_forward j.nodes (rows_of j.nodes (links_of j.from j.to j.weight))) j.given unwatched j.nodes j.sources
+end j = solve (over push_forward j.nodes (rows_of j.nodes (links_of j.from j.to j.weight))) j.given unwatched j.nodes j.sources
 
 -- a text by its refusal number: that of a solve that is done, or the refusal's
 unfoldable pub refused_or : ℕ → List ℕ → List ℕ

@@ -17,22 +17,22 @@ use Rattle.pushes.specs.Buffers.{Lent}
 use Rattle.pushes.specs.Meant.{Along}
 
 -- what holds at the entry i
-pub record Spreading (backward by_out_degree : Bool) (rest degree : Float) (columns : List ℕ) (weights degrees out_degrees : List Float) (w₀ w : Pending) (i : ℕ) : Type 0 where
+pub record Spreading (backward : Bool) (rest degree : Float) (columns : List ℕ) (weights degrees out_degrees : List Float) (w₀ w : Pending) (i : ℕ) : Type 0 where
   pub up_to : i ≤ length columns
   pub lent : Lent (length degrees) w
   pub same_words : length w.queued ≡ length w₀.queued
-  pub left : (way : Way) → Along backward by_out_degree degrees out_degrees way → (estimate : List Float) (pushes : ℕ) (visited : List ℕ)
+  pub left : (way : Way) → Along backward degrees out_degrees way → (estimate : List Float) (pushes : ℕ) (visited : List ℕ)
       → each (pass way rest degree) (entries_of (drop i columns) (drop i weights)) (state_with (length degrees) estimate pushes visited w)
       ≡ each (pass way rest degree) (entries_of columns weights) (state_with (length degrees) estimate pushes visited w₀)
 
 -- the first of the entries that are left
-pub one_passes : (backward by_out_degree : Bool) (rest degree : Float) (columns : List ℕ) (weights degrees out_degrees : List Float) (way : Way) → Along backward by_out_degree degrees out_degrees way
+pub one_passes : (backward : Bool) (rest degree : Float) (columns : List ℕ) (weights degrees out_degrees : List Float) (way : Way) → Along backward degrees out_degrees way
     → length weights ≡ length columns → (i : ℕ) → i < length columns → get_or columns i 0 < length degrees → (s : State)
     → each (pass way rest degree) (entries_of (drop i columns) (drop i weights)) s
     ≡ each (pass way rest degree) (entries_of (drop (i + 1) columns) (drop (i + 1) weights))
-    (offer way (get_or columns i 0) (gain (share_of backward by_out_degree rest degree (at weights i) (at out_degrees (get_or columns i 0))) (get_or columns i 0) s))
+    (offer way (get_or columns i 0) (gain (share_of backward rest degree (at weights i) (at out_degrees (get_or columns i 0))) (get_or columns i 0) s))
 unfolding each pass entries_of
-one_passes backward by_out_degree rest degree columns weights degrees out_degrees way a l i h b s =
+one_passes backward rest degree columns weights degrees out_degrees way a l i h b s =
     let k : i < length weights = omega arith in
     let v = get_or columns i 0 in
     rw (drop-cons columns i 0 h, drop-cons weights i nan k, add-one)

@@ -40,16 +40,15 @@ module _ {n : ℕ} {backward : Bool} {l : Lists} (r : Rows n backward l) where
     weights_fit = part_fits l.weights l.reverse_weights r.weights_alike r.rowed.paired
 
   -- a way with the rows has their degrees
-  pub weighs : {by_out_degree : Bool} (way : Way) → Stands n backward by_out_degree l way → (v : ℕ) → v < n → Weighs l.degrees v way
+  pub weighs : (way : Way) → Stands n backward l way → (v : ℕ) → v < n → Weighs l.degrees v way
   unfolding degree_of
   weighs way s v h = ap (λ (ds : List Float). at ds v) r.degrees_are ∙ row_degree r.rowed v h ∙ ap degree (sym (s.rows v h))
 
 -- a way that the buffers stand for
-pub way_in : Bool → Bool → Lists → Way
-way_in backward by_out_degree l =
-    way_of backward by_out_degree (λ v. row_in (get_or l.starts v 0) (get_or l.starts (suc v) 0) (columns_by backward l) (weights_by backward l)) (at l.out_degrees)
+pub way_in : Bool → Lists → Way
+way_in backward l = way_of backward (λ v. row_in (get_or l.starts v 0) (get_or l.starts (suc v) 0) (columns_by backward l) (weights_by backward l)) (at l.out_degrees)
 
 -- and it is one of those that are meant, so that what is promised of all of them is said of one
-pub stands : (n : ℕ) (backward by_out_degree : Bool) (l : Lists) → Stands n backward by_out_degree l (way_in backward by_out_degree l)
+pub stands : (n : ℕ) (backward : Bool) (l : Lists) → Stands n backward l (way_in backward l)
 unfolding way_in way_of
-stands n backward by_out_degree l = record { rows = λ v h. refl; shares = λ rest degree x h. refl }
+stands n backward l = record { rows = λ v h. refl; shares = λ rest degree x h. refl }

@@ -19,16 +19,15 @@ abbrev pub Weighing : List Float → Way → Type 0
 Weighing degrees way = (v : ℕ) → v < length degrees → Weighs degrees v way
 
 -- those whose shares go by these out_degrees
-abbrev pub Shares : ℕ → Bool → Bool → List Float → Way → Type 0
-Shares n backward by_out_degree out_degrees way =
-    (rest degree : Float) (x : Entry) → x.node < n → way.share rest degree x ≡ share_of backward by_out_degree rest degree x.weight (at out_degrees x.node)
+abbrev pub Shares : ℕ → Bool → List Float → Way → Type 0
+Shares n backward out_degrees way = (rest degree : Float) (x : Entry) → x.node < n → way.share rest degree x ≡ share_of backward rest degree x.weight (at out_degrees x.node)
 
 -- those with these degrees and shares
-pub record Along (backward by_out_degree : Bool) (degrees out_degrees : List Float) (way : Way) : Type 0 where
+pub record Along (backward : Bool) (degrees out_degrees : List Float) (way : Way) : Type 0 where
   pub weighs : Weighing degrees way
-  pub shares : Shares (length degrees) backward by_out_degree out_degrees way
+  pub shares : Shares (length degrees) backward out_degrees way
 
 -- those with the rows of a direction, and its shares
-pub record Stands (n : ℕ) (backward by_out_degree : Bool) (l : Lists) (way : Way) : Type 0 where
+pub record Stands (n : ℕ) (backward : Bool) (l : Lists) (way : Way) : Type 0 where
   pub rows : (v : ℕ) → v < n → way.row v ≡ row_in (get_or l.starts v 0) (get_or l.starts (suc v) 0) (columns_by backward l) (weights_by backward l)
-  pub shares : Shares n backward by_out_degree l.out_degrees way
+  pub shares : Shares n backward l.out_degrees way

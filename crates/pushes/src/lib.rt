@@ -1,6 +1,5 @@
 // A push of a node, for both directions, over lent buffers, and what it is made of. A promise says that the state that the
-// buffers stand for is moved as the rules say; `backward` is the direction, and `by_out_degree` the division rule of the
-// backward one.
+// buffers stand for is moved as the rules say; `backward` is the direction.
 ghost use Rattle.std.specs.Prelude.{◌≡◌, ◌<◌, length};
 ghost use Rattle.graph.specs.Rows.{entries_of};
 ghost use Rattle.rules.specs.Ways.{share_of};
@@ -28,26 +27,11 @@ pub fn effective(degree: f64) -> f64
 }
 
 // What an entry gets of the rest.
-fn share(
-    backward: bool,
-    by_out_degree: bool,
-    rest: f64,
-    degree: f64,
-    weight: f64,
-    out_degree: f64,
-) -> f64
-    ensures { result ≡ share_of backward by_out_degree rest degree weight out_degree }
+fn share(backward: bool, rest: f64, degree: f64, weight: f64, out_degree: f64) -> f64
+    ensures { result ≡ share_of backward rest degree weight out_degree }
 {
     if backward {
-        if by_out_degree {
-            if 0.0 < out_degree {
-                rest * (weight / out_degree)
-            } else {
-                0.0
-            }
-        } else {
-            rest * (weight / effective(out_degree))
-        }
+        rest * (weight / effective(out_degree))
     } else {
         rest * weight / degree
     }
@@ -99,7 +83,6 @@ fn pass_on(
 // there, whose entry the offer reads anyway.
 fn spread(
     backward: bool,
-    by_out_degree: bool,
     q: WorkQueue,
     rest: f64,
     degree: f64,
@@ -113,7 +96,7 @@ fn spread(
     queued: &mut [u64],
 ) -> WorkQueue
     requires { Row (length degrees.now) columns.now weights.now out_degrees.now (pending_in q residual priorities nodes queued) }
-    ensures { Moved (Along backward by_out_degree degrees.now out_degrees.now)
+    ensures { Moved (Along backward degrees.now out_degrees.now)
         (λ way. each (pass way rest degree) (entries_of columns.now weights.now)) (length degrees.now)
         (pending_before q residual priorities nodes queued) (pending_after result residual priorities nodes queued) }
 {
@@ -122,14 +105,7 @@ fn spread(
     while i < columns.len() {
         let v = columns[i];
         let at = v as usize;
-        let x = share(
-            backward,
-            by_out_degree,
-            rest,
-            degree,
-            weights[i],
-            out_degrees[at],
-        );
+        let x = share(backward, rest, degree, weights[i], out_degrees[at]);
         w = pass_on(w, v, x, degrees, residual, priorities, nodes, queued);
         i += 1;
     }
@@ -140,7 +116,6 @@ fn spread(
 // part of one of the two pairs of lists.
 fn hand_out<'a>(
     backward: bool,
-    by_out_degree: bool,
     q: WorkQueue,
     v: u32,
     rest: f64,
@@ -158,7 +133,7 @@ fn hand_out<'a>(
 ) -> WorkQueue
     requires { Rows (length degrees.now) backward (lists_in starts columns reverse_columns weights reverse_weights degrees out_degrees)
         × Seated (length degrees.now) v (pending_in q residual priorities nodes queued) }
-    ensures { Moved (Stands (length degrees.now) backward by_out_degree (lists starts columns reverse_columns weights reverse_weights degrees out_degrees))
+    ensures { Moved (Stands (length degrees.now) backward (lists starts columns reverse_columns weights reverse_weights degrees out_degrees))
         (λ way. hand_out way rest v) (length degrees.now)
         (pending_before q residual priorities nodes queued) (pending_after result residual priorities nodes queued) }
 {
@@ -171,7 +146,6 @@ fn hand_out<'a>(
         let part = graph::neighbour_weights(backward, weights, reverse_weights, start, end);
         return spread(
             backward,
-            by_out_degree,
             q,
             rest,
             degree,
@@ -203,7 +177,6 @@ fn absorb(alpha: f64, v: u32, estimate: &mut [f64], residual: &mut [f64])
 pub fn push_node<'a>(
     alpha: f64,
     backward: bool,
-    by_out_degree: bool,
     q: WorkQueue,
     v: u32,
     starts: &[u32],
@@ -221,7 +194,7 @@ pub fn push_node<'a>(
 ) -> WorkQueue
     requires { Rows (length degrees.now) backward (lists_in starts columns reverse_columns weights reverse_weights degrees out_degrees)
         × Seated (length degrees.now) v (pending_in q residual priorities nodes queued) × (length estimate.old ≡ length degrees.now) }
-    ensures { Pushed (Stands (length degrees.now) backward by_out_degree (lists starts columns reverse_columns weights reverse_weights degrees out_degrees))
+    ensures { Pushed (Stands (length degrees.now) backward (lists starts columns reverse_columns weights reverse_weights degrees out_degrees))
         (λ way. push way alpha v) (length degrees.now)
         estimate.old (pending_before q residual priorities nodes queued) estimate.new (pending_after result residual priorities nodes queued) }
 {
@@ -234,7 +207,6 @@ pub fn push_node<'a>(
     let rest = (1.0 - alpha) * mass;
     hand_out(
         backward,
-        by_out_degree,
         q,
         v,
         rest,

@@ -110,7 +110,6 @@ by_others upper lower raising lowering floor =
       raising_factor = raising;
       lowering_factor = lowering;
       threshold_floor = floor;
-      divide_by_out_degree = false;
     }
 
 -- upper size 3, lower size 2, factors 2 and 1/2, floor 0: above 3 the threshold 1 becomes 2, at 3 and at 2 it stays, below 2 it becomes 1/2

@@ -34,7 +34,6 @@ adapting adaptive step upper lower raising lowering floor =
       raising_factor = raising;
       lowering_factor = lowering;
       threshold_floor = floor;
-      divide_by_out_degree = false;
     }
 
 -- 65,536 nodes pass, 65,537 give 1

@@ -1,5 +1,5 @@
--- The settings that a solve has where nobody chose other adaptive numbers or another division rule. Assumes nothing.
-use Rattle.std.specs.Prelude.{ℕ, Bool, false, Float}
+-- The settings that a solve has where nobody chose other adaptive numbers. Assumes nothing.
+use Rattle.std.specs.Prelude.{ℕ, Bool, Float}
 use Rattle.numbers.specs.Numbers.{f64}
 use Rattle.refusals.specs.declared.Settings.{Settings}
 
@@ -18,5 +18,4 @@ usual alpha epsilon threshold max adaptive =
       raising_factor = f64 0x3ff1_9999_9999_999a;  -- 1.1
       lowering_factor = f64 0x3fec_cccc_cccc_cccd;  -- 0.9
       threshold_floor = f64 0x3d71_9799_812d_ea11;  -- 1e-12
-      divide_by_out_degree = false;
     }

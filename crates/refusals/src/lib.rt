@@ -5,10 +5,9 @@ ghost use Rattle.numbers.specs.Tables.{any};
 ghost use Rattle.refusals.specs.Usual.{usual};
 ghost use Rattle.refusals.specs.Refusals.{◌or◌, ◌when◌, refuse_nodes, refuse_links, refuse_listed, refuse_rows, refuse_weights, refuse_alpha, refuse_adaptive, refuse_settings, refuse_precision, amount, wrong, falls, within};
 
-// The settings of a solve. Those after the first flag are the adaptive numbers: after how many pushes
-// the threshold adapts, above and below which sizes of the queue, by which factors, and the floor
-// above which it falls. The second flag is the division rule of backward shares: by the out-degree
-// itself, or by e of it.
+// The settings of a solve. Those after the flag are the adaptive numbers: after how many pushes the
+// threshold adapts, above and below which sizes of the queue, by which factors, and the floor above
+// which it falls.
 #[repr(C)]
 #[derive(Drop)]
 pub struct Settings {
@@ -23,10 +22,9 @@ pub struct Settings {
     pub raising_factor: f64,
     pub lowering_factor: f64,
     pub threshold_floor: f64,
-    pub divide_by_out_degree: bool,
 }
 
-// Settings with the adaptive numbers and the division rule that a solve has where nobody chose others.
+// Settings with the adaptive numbers that a solve has where nobody chose others.
 pub fn usual(
     alpha: f64,
     epsilon: f64,
@@ -48,7 +46,6 @@ pub fn usual(
         raising_factor: 1.1,
         lowering_factor: 0.9,
         threshold_floor: 1e-12,
-        divide_by_out_degree: false,
     }
 }
 

@@ -15,6 +15,5 @@ pub mod Transposed
 pub mod Paths
 pub mod Unreached
 pub mod Premises
-pub mod EitherRule
 pub mod Distinct
 pub mod Visited

@@ -22,10 +22,10 @@ use Rattle.rules.proofs.Keeps.{Closed, KeepsTurn, turn_keeps, run_keeps, start_k
 use Rattle.rules.proofs.Lengths.{solve_spans}
 use Rattle.rules.proofs.Due.{due_may_go}
 
--- the two ways agree on R: in the rows of its nodes, and in what the entries of these get
+-- the two ways agree on R: in the rows of its nodes, and in what an entry gets that leads to one of them
 pub record Agree (R : ℕ → Type 0) (a b : Way) : Type 0 where
   pub rows : (v : ℕ) → R v → a.row v ≡ b.row v
-  pub shares : (v : ℕ) → R v → (x : Entry) → Memᴰ x (a.row v) → (rest degree : Float) → a.share rest degree x ≡ b.share rest degree x
+  pub shares : (rest degree : Float) (x : Entry) → R x.node → a.share rest degree x ≡ b.share rest degree x
 
 -- ---- one turn of a node of R
 
@@ -36,9 +36,9 @@ module _ (R : ℕ → Type 0) (a b : Way) (g : Agree R a b) where
   offer_same v s r = rw (g.rows v r)
 
   -- an entry's share
-  pass_same : (rest degree : Float) (x : Entry) (s : State) → a.share rest degree x ≡ b.share rest degree x → R x.node → pass a rest degree x s ≡ pass b rest degree x s
+  pass_same : (rest degree : Float) (x : Entry) (s : State) → R x.node → pass a rest degree x s ≡ pass b rest degree x s
   unfolding pass
-  pass_same rest degree x s e r = rw e (offer_same x.node _ r)
+  pass_same rest degree x s r = rw (g.shares rest degree x r) (offer_same x.node _ r)
 
   -- what is handed out
   hand_out_same : Closed R a → (rest : Float) (v : ℕ) (s : State) → R v → hand_out a rest v s ≡ hand_out b rest v s
@@ -46,7 +46,7 @@ module _ (R : ℕ → Type 0) (a b : Way) (g : Agree R a b) where
   hand_out_same c rest v s r =
       rw (
         ← (g.rows v r),
-        each_same (pass a rest (degree_of a v)) (pass b rest (degree_of a v)) (a.row v) s (λ x m t. pass_same rest _ x t (g.shares v r x m rest _) (c v r x m)),
+        each_same (pass a rest (degree_of a v)) (pass b rest (degree_of a v)) (a.row v) s (λ x m t. pass_same rest _ x t (c v r x m)),
         offer_same v (gain rest v s) r,
       )
 

@@ -10,7 +10,6 @@ use borrow.Author.Tests.{ltb-true}
 use lib.Dec.{ltb}
 use Rattle.numbers.specs.Choice.{if◌then◌else◌}
 use Rattle.numbers.proofs.Choice.{decided, either}
-use Rattle.refusals.specs.declared.Settings.{Settings}
 use Rattle.graph.specs.Rows.{Entry}
 use Rattle.rules.specs.Ways.{push_backward, way_of, over, row_at}
 use Rattle.rules.specs.Rules.{Watch, inside, begun}
@@ -59,7 +58,7 @@ module _ (n : ℕ) (list : List ℕ) where
       }
 
   -- and goes on to others
-  pub connected_closed : (settings : Settings) (is_backward : Bool) (rows : List (List Entry)) → Closed (Connected is_backward (row_at rows) n list) (over settings is_backward n rows)
+  pub connected_closed : (is_backward : Bool) (rows : List (List Entry)) → Closed (Connected is_backward (row_at rows) n list) (over is_backward n rows)
   unfolding over way_of if◌then◌else◌
-  connected_closed settings false rows v r x m = record { node = r.node; listed = r.listed; below = r.below; leads = step r.leads m }
-  connected_closed settings true rows t r x m = connected_before (transposed_mem n t rows x m) r
+  connected_closed false rows v r x m = record { node = r.node; listed = r.listed; below = r.below; leads = step r.leads m }
+  connected_closed true rows t r x m = connected_before (transposed_mem n t rows x m) r

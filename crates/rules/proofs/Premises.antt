@@ -69,7 +69,7 @@ module _ (links : List Link) (among : (l : Link) → Memᴰ l links → Memᴰ l
 
 -- from 0, in either direction
 same_pair : (is_backward : Bool) (settings : Settings) (watch : Watch)
-    → Alike (solve (over_links settings is_backward 3 fewer) settings watch 3 (0 ∷ [])) (solve (over_links settings is_backward 3 more) settings watch 3 (0 ∷ []))
+    → Alike (solve (over_links is_backward 3 fewer) settings watch 3 (0 ∷ [])) (solve (over_links is_backward 3 more) settings watch 3 (0 ∷ []))
 same_pair is_backward settings watch =
     alike_links is_backward settings watch 3 (0 ∷ []) fewer more
     (record {

@@ -33,7 +33,7 @@ use Rattle.rules.proofs.Due.{nobody_waits}
 use Rattle.rules.proofs.Ends.{solve_ends}
 
 -- e is at least 1
-pub effective_least : (degree : Float) → T (le one (effective degree))
+effective_least : (degree : Float) → T (le one (effective degree))
 unfolding effective is_nan of_bits
 effective_least degree = decided (λ e. T (le one e)) _ (λ t. lt-le one degree (of_true t)) (λ t. le_reflexive one refl)
 

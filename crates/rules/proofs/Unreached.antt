@@ -31,12 +31,12 @@ one_alike s t e =
     }
 
 -- with the same links where they are connected, two ways agree there
-agree : (settings : Settings) (is_backward : Bool) (n : ℕ) (list : List ℕ) (rows others : List (List Entry)) → SameConnected is_backward (row_at rows) (row_at others) n list
-    → Agree (Connected is_backward (row_at rows) n list) (over settings is_backward n rows) (over settings is_backward n others)
+agree : (is_backward : Bool) (n : ℕ) (list : List ℕ) (rows others : List (List Entry)) → SameConnected is_backward (row_at rows) (row_at others) n list
+    → Agree (Connected is_backward (row_at rows) n list) (over is_backward n rows) (over is_backward n others)
 unfolding over way_of share_of if◌then◌else◌
-agree settings false n list rows others same = record { rows = same.links; shares = λ v r x m rest degree. refl }
-agree settings true n list rows others same =
-    record { rows = λ t r. transposed_same n t rows others (entering t r); shares = λ v r x m rest degree. cc (same.links x.node (connected_closed n list settings true rows v r x m)) }
+agree false n list rows others same = record { rows = same.links; shares = λ rest degree x r. refl }
+agree true n list rows others same =
+    record { rows = λ t r. transposed_same n t rows others (entering t r); shares = λ rest degree x r. cc (same.links x.node r) }
   where
     -- a node with a link to one that reaches a target reaches it too, on either side
     entering : (t : ℕ) → Connected push_backward (row_at rows) n list t → (u : ℕ) → To t (row_at rows u) ⊎ To t (row_at others u) → row_at rows u ≡ row_at others u
@@ -52,27 +52,27 @@ module _ (is_backward : Bool) (settings : Settings) (watch : Watch) (n : ℕ) (l
 
   module _ (rows : List (List Entry)) {row : ℕ → List Entry} (shown : row_at rows ≡ row) where
     -- a node that is not connected
-    pub untouched_rows : (v : ℕ) → v < n → ¬ Connected is_backward row n list v → Untouched (solve (over settings is_backward n rows) settings watch n list) v
-    untouched_rows = rw (← shown) (solve_off _ (over settings is_backward n rows) (connected_closed n list settings is_backward rows) settings watch n list (begun_connected n list is_backward watch _))
+    pub untouched_rows : (v : ℕ) → v < n → ¬ Connected is_backward row n list v → Untouched (solve (over is_backward n rows) settings watch n list) v
+    untouched_rows = rw (← shown) (solve_off _ (over is_backward n rows) (connected_closed n list is_backward rows) settings watch n list (begun_connected n list is_backward watch _))
 
     -- the same links where they are connected
     pub alike_rows : (others : List (List Entry)) {other : ℕ → List Entry} → row_at others ≡ other → SameConnected is_backward row other n list
-        → Alike (solve (over settings is_backward n rows) settings watch n list) (solve (over settings is_backward n others) settings watch n list)
+        → Alike (solve (over is_backward n rows) settings watch n list) (solve (over is_backward n others) settings watch n list)
     alike_rows others also =
         rw (← shown, ← also)
-        (λ same. one_alike _ _ (solve_same _ (over settings is_backward n rows) (connected_closed n list settings is_backward rows) settings watch n list (begun_connected n list is_backward watch _)
-        (over settings is_backward n others) (agree settings is_backward n list rows others same)))
+        (λ same. one_alike _ _ (solve_same _ (over is_backward n rows) (connected_closed n list is_backward rows) settings watch n list (begun_connected n list is_backward watch _)
+        (over is_backward n others) (agree is_backward n list rows others same)))
 
   -- ---- for lists of links, by their kept links
 
   module _ (links : List Link) where
     -- A node that no source can reach, or backward that can reach no target, has score and remainder +0.
-    pub untouched_links : (v : ℕ) → v < n → ¬ Connected is_backward (kept_links n links) n list v → Untouched (solve (over_links settings is_backward n links) settings watch n list) v
+    pub untouched_links : (v : ℕ) → v < n → ¬ Connected is_backward (kept_links n links) n list v → Untouched (solve (over_links is_backward n links) settings watch n list) v
     untouched_links = untouched_rows (rows_of n links) (rows_kept n links)
 
     -- FORWARD. Where the kept links out of every node that the sources can reach are the same, in the same order, the two lists give the same scores,
     -- remainders, counts and norm. BACKWARD. So they do where the nodes that can reach a target are the same in both lists, and the kept links out of
     -- every one of them are the same, in the same order.
     pub alike_links : (others : List Link) → SameConnected is_backward (kept_links n links) (kept_links n others) n list
-        → Alike (solve (over_links settings is_backward n links) settings watch n list) (solve (over_links settings is_backward n others) settings watch n list)
+        → Alike (solve (over_links is_backward n links) settings watch n list) (solve (over_links is_backward n others) settings watch n list)
     alike_links others = alike_rows (rows_of n links) (rows_kept n links) (rows_of n others) (rows_kept n others)

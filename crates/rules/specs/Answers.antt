@@ -6,8 +6,8 @@ use Rattle.numbers.specs.Numbers.{f64, +0, ◌⊕◌, ◌⊗◌}
 use Rattle.numbers.specs.Choice.{if◌then◌else◌}
 use Rattle.numbers.specs.Tables.{tabulate}
 use Rattle.marks.specs.Marks.{how_many}
-use Rattle.graph.specs.Rows.{Entry, degree, transposed}
-use Rattle.rules.specs.Ways.{row_at}
+use Rattle.graph.specs.Rows.{Entry}
+use Rattle.rules.specs.Ways.{push_forward, push_backward, over, degree_of}
 use Rattle.rules.specs.Rules.{State, at}
 
 -- nodes_visited: how many nodes are marked
@@ -52,7 +52,7 @@ method_among n outward inward source target = if ltb source n && ltb target n th
 
 -- by those that the rows of n nodes give
 unfoldable pub method : ℕ → List (List Entry) → ℕ → ℕ → Method
-method n rows source target = method_among n (λ v. degree (row_at rows v)) (λ v. degree (row_at (transposed n rows) v)) source target
+method n rows source target = method_among n (degree_of (over push_forward n rows)) (degree_of (over push_backward n rows)) source target
 
 -- what it answers, from the backward and the forward solve; alpha is the backward one
 unfoldable pub answer_by : Method → Float → ℕ → ℕ → ℕ → State → State → Float

@@ -15,23 +15,14 @@ use Rattle.norm.proofs.Examples as Roots
 use Rattle.marks.specs.Marks.{how_many}
 use Rattle.graph.specs.Rows.{Link, link, kept, gives, row_of, rows_of, sum_from, degree, into, into_from, transposed}
 use Rattle.queue.specs.Waiting.{out, taken, answer, offered, better, best_from, next, adapted}
-use Rattle.rules.specs.Ways.{push_forward, push_backward, effective, share_of, way_of, over, over_links, degree_of}
+use Rattle.rules.specs.Ways.{push_forward, push_backward, effective, transition, share_of, way_of, over, over_links, degree_of}
 use Rattle.rules.specs.Rules.{each, State, Watch, unwatched, watched, blank, queued, gain, absorb, threshold_after, counted, offer, pass, hand_out, push, stops, goes_on, due, skips, visit, turn, onward, run}
 use Rattle.rules.specs.Rules.{inside, watchable, begun, start, enough, solve}
 use Rattle.rules.specs.Pushed.{pushed, distinct}
 use Rattle.rules.specs.StillDue.{still_due, Steady}
-use Rattle.rules.specs.Ruled.{ruled}
 use Rattle.rules.specs.Answers.{visited_count, score_at, extrapolated, combined, together, neither, backward_alone, forward_alone, both, by_degrees, method_among, method}
 
 -- ---- numbers
-
--- -0
-abbrev -0 : Float
--0 = f64 0x8000_0000_0000_0000
-
--- the least number above zero, which is subnormal
-abbrev least : Float
-least = f64 1
 
 -- 1/64
 abbrev sixty_fourth : Float
@@ -94,7 +85,6 @@ adapting adaptive epsilon step upper lower raising lowering floor =
       raising_factor = raising;
       lowering_factor = lowering;
       threshold_floor = floor;
-      divide_by_out_degree = false;
     }
 
 -- a state of one node after so many pushes
@@ -113,52 +103,25 @@ chain weight = link 0 1 weight ∷ []
 abbrev fork : Float → Float → List Link
 fork a b = link 0 1 a ∷ link 0 2 b ∷ []
 
--- links 0→2 of this weight and 1→2 of weight 1
-abbrev joint_of : Float → List Link
-joint_of weight = link 0 2 weight ∷ link 1 2 one ∷ []
-
--- with weight 1 both
+-- links 0→2 and 1→2
 abbrev joint : List Link
-joint = joint_of one
+joint = link 0 2 one ∷ link 1 2 one ∷ []
 
 -- a solve of a list of links
 abbrev solved : Bool → ℕ → List Link → Settings → List ℕ → State
-solved direction n links settings sources = solve (over_links settings direction n links) settings unwatched n sources
+solved direction n links settings sources = solve (over_links direction n links) settings unwatched n sources
 
 -- the chain from 0, with a node that is watched
 abbrev watching : ℕ → Float → State
-watching v precision = solve (over_links (usually 10) push_forward 2 (chain one)) (usually 10) (watched v precision) 2 (0 ∷ [])
+watching v precision = solve (over_links push_forward 2 (chain one)) (usually 10) (watched v precision) 2 (0 ∷ [])
 
 -- a node with a link to itself that watches itself at the precision 5/8, a tenth of which is 1/16
 abbrev watching_itself : State
-watching_itself =
-    let settings = set_to half sixty_fourth sixty_fourth 10 in
-    solve (over_links settings push_forward 1 (link 0 0 one ∷ [])) settings (watched 0 (f64 0x3fe4_0000_0000_0000)) 1 (0 ∷ [])
+watching_itself = solve (over_links push_forward 1 (link 0 0 one ∷ [])) (set_to half sixty_fourth sixty_fourth 10) (watched 0 (f64 0x3fe4_0000_0000_0000)) 1 (0 ∷ [])
 
--- settings with alpha 0.15 and one push
-abbrev once : Settings
-once = set_to (f64 0x3fc3_3333_3333_3333) eighth eighth 1
-
--- the fork with weights 2 and 3
-abbrev uneven : List Link
-uneven = fork two (f64 0x4008_0000_0000_0000)
-
--- the same with a sixteenth of the weights, so that the out-degree is 5/16
-abbrev uneven_light : List Link
-uneven_light = fork eighth (f64 0x3fc8_0000_0000_0000)
-
--- what a push of node 2 leaves over, where the residual there has gone past every number, by both division rules
-abbrev pushed_past_numbers : Float → List (List Float)
-pushed_past_numbers weight =
-    map
-    (λ (rule : Bool). (push (over_links (ruled rule (usually 1)) push_backward 3 (joint_of weight)) half 2
-    (record { estimate = +0 ∷ +0 ∷ +0 ∷ []; residual = +0 ∷ +0 ∷ inf false ∷ []; slots = out ∷ out ∷ out ∷ []; threshold = quarter; pushes = 0; visited = false ∷ false ∷ false ∷ [] })
-    ).residual)
-    (false ∷ true ∷ [])
-
--- what a backward link of a weight brings of a rest, out of a node with an out-degree, by both division rules
-abbrev brought : Float → Float → Float → List Float
-brought rest weight degree = map (λ (rule : Bool). share_of push_backward rule rest one weight degree) (false ∷ true ∷ [])
+-- the fork with weights 2 and 3, and alpha 0.15
+abbrev uneven : Bool → ℕ → State
+uneven direction v = solved direction 3 (fork two (f64 0x4008_0000_0000_0000)) (set_to (f64 0x3fc3_3333_3333_3333) eighth eighth 1) (v ∷ [])
 
 -- P1: the chain from 0
 abbrev along : State
@@ -198,7 +161,7 @@ stop pushes residual due = record { pushes = pushes; residual = residual; due = 
 -- that of a solve of a list of links
 abbrev stopping : Bool → ℕ → List Link → Settings → Watch → List ℕ → Stop
 stopping direction n links settings watch sources =
-    let way = over_links settings direction n links in
+    let way = over_links direction n links in
     let s = solve way settings watch n sources in
     stop s.pushes s.residual (tabulate n (still_due way settings s.residual))
 
@@ -207,7 +170,7 @@ pub record Worked : Type 0 where
   -- P1: three pushes, two nodes
   pub chain_forward : shown along ≡ ending 3 2 (half ∷ f64 0x3fd8_0000_0000_0000 ∷ []) (+0 ∷ eighth ∷ [])
   pub chain_norm : Norm along.residual eighth
-  pub chain_pushed : pushed (over_links (usually 10) push_forward 2 (chain one)) (usually 10) unwatched 32 (start (over_links (usually 10) push_forward 2 (chain one)) (usually 10) unwatched 2 (0 ∷ [])) ≡ 0 ∷ 1 ∷ 1 ∷ []
+  pub chain_pushed : pushed (over_links push_forward 2 (chain one)) (usually 10) unwatched 32 (start (over_links push_forward 2 (chain one)) (usually 10) unwatched 2 (0 ∷ [])) ≡ 0 ∷ 1 ∷ 1 ∷ []
   pub chain_distinct : distinct (0 ∷ 1 ∷ 1 ∷ []) ≡ 0 ∷ 1 ∷ []
   -- P2: no nodes, or a source out of range
   pub no_nodes : shown (solved push_forward 0 [] (usually 10) (0 ∷ [])) ≡ ending 0 0 [] []
@@ -243,29 +206,9 @@ pub record Worked : Type 0 where
   pub root_two : Root two (f64 0x3ff6_a09e_667f_3bcd)
   pub root_least : Root (f64 1) (fin false 1 (negsuc 536))
   -- the forward share: the product first, then the quotient (weight / degree first would end in c3)
-  pub product_first : shown (solved push_forward 3 uneven once (0 ∷ [])) ≡ ending 1 1 (f64 0x3fc3_3333_3333_3333 ∷ +0 ∷ +0 ∷ []) (+0 ∷ f64 0x3fd5_c28f_5c28_f5c2 ∷ f64 0x3fe0_51eb_851e_b852 ∷ [])
+  pub product_first : shown (uneven push_forward 0) ≡ ending 1 1 (f64 0x3fc3_3333_3333_3333 ∷ +0 ∷ +0 ∷ []) (+0 ∷ f64 0x3fd5_c28f_5c28_f5c2 ∷ f64 0x3fe0_51eb_851e_b852 ∷ [])
   -- the backward share: the quotient first, by the out-degree of the entry's node (the product first would end in c2)
-  pub quotient_first : shown (solved push_backward 3 uneven once (1 ∷ [])) ≡ ending 1 1 (+0 ∷ f64 0x3fc3_3333_3333_3333 ∷ +0 ∷ []) (f64 0x3fd5_c28f_5c28_f5c3 ∷ +0 ∷ +0 ∷ [])
-  -- P10 by the other division rule, which divides by the out-degree
-  pub light_by_out_degree : shown (solved push_backward 2 (chain half) (ruled true (usually 1)) (1 ∷ [])) ≡ ending 1 1 (+0 ∷ half ∷ []) (half ∷ +0 ∷ [])
-  -- the quotient first by this rule too, with an out-degree of 5/16 (the product first would end in c2)
-  pub quotient_first_by_out_degree : shown (solved push_backward 3 uneven_light (ruled true once) (1 ∷ [])) ≡ ending 1 1 (+0 ∷ f64 0x3fc3_3333_3333_3333 ∷ +0 ∷ []) (f64 0x3fd5_c28f_5c28_f5c3 ∷ +0 ∷ +0 ∷ [])
-  -- from an out-degree of 1 on both rules divide by it; at 1/2 and at the least numbers e is 1
-  pub brought_of_one : brought one half one ≡ half ∷ half ∷ []
-  pub brought_of_two : brought one half two ≡ quarter ∷ quarter ∷ []
-  pub brought_of_half : brought one quarter half ≡ quarter ∷ half ∷ []
-  pub brought_of_least : brought one least least ≡ least ∷ one ∷ []
-  pub brought_of_three_least : brought one least (f64 3) ≡ least ∷ f64 0x3fd5_5555_5555_5555 ∷ []
-  -- out of a node whose links weigh nothing it is +0, for -0 too, and though the rest is past every number or no number: 0 times that, and 0 / 0, are NaN
-  pub brought_of_nothing : brought one +0 +0 ≡ +0 ∷ +0 ∷ []
-  pub brought_of_less : brought one -0 +0 ≡ -0 ∷ +0 ∷ []
-  pub brought_past_numbers : brought (inf false) +0 +0 ≡ nan ∷ +0 ∷ []
-  pub brought_of_no_number : brought nan -0 +0 ≡ nan ∷ +0 ∷ []
-  pub passed_past_numbers : map pushed_past_numbers (+0 ∷ -0 ∷ []) ≡ ((nan ∷ inf false ∷ +0 ∷ []) ∷ (+0 ∷ inf false ∷ +0 ∷ []) ∷ []) ∷ ((nan ∷ inf false ∷ +0 ∷ []) ∷ (+0 ∷ inf false ∷ +0 ∷ []) ∷ []) ∷ []
-  -- node 0, which gets +0, is offered like node 1, and pushed after it: nothing moves, and it is counted
-  pub offered_for_nothing : shown (solved push_backward 3 (joint_of +0) (ruled true (set_to one +0 +0 10)) (2 ∷ [])) ≡ ending 3 3 (+0 ∷ +0 ∷ one ∷ []) (+0 ∷ +0 ∷ +0 ∷ [])
-  -- the priority still goes by e of the in-degree: 1/2 at node 1, which a threshold of 3/4 keeps out; over the in-degree of 1/2 it would be 1
-  pub offered_over_effective : shown (solved push_backward 3 (link 1 2 one ∷ link 0 1 half ∷ []) (ruled true (set_to half quarter three_quarters 10)) (2 ∷ [])) ≡ ending 1 1 (+0 ∷ +0 ∷ half ∷ []) (+0 ∷ half ∷ +0 ∷ [])
+  pub quotient_first : shown (uneven push_backward 1) ≡ ending 1 1 (+0 ∷ f64 0x3fc3_3333_3333_3333 ∷ +0 ∷ []) (f64 0x3fd5_c28f_5c28_f5c3 ∷ +0 ∷ +0 ∷ [])
   -- forward, a degree below 1 divides as it is
   pub light_forward : shown (solved push_forward 2 (chain half) (usually 1) (0 ∷ [])) ≡ ending 1 1 (half ∷ +0 ∷ []) (+0 ∷ half ∷ [])
   -- a link from a node to itself brings its mass back
@@ -327,7 +270,7 @@ pub record Worked : Type 0 where
   pub no_binary : fits binary64 (fin false 1 (negsuc 1999)) ≡ false
   pub due_at_no_binary : stopping push_forward 2 (chain one) (set_to one (fin false 1 (negsuc 1999)) +0 10) unwatched (0 ∷ []) ≡ stop 2 (+0 ∷ +0 ∷ []) (true ∷ true ∷ [])
   -- no push is due at a NaN, and one is at an infinity
-  pub no_number_due : tabulate 2 (still_due (over_links (usually 10) push_forward 2 []) (usually 10) (nan ∷ inf false ∷ [])) ≡ false ∷ true ∷ []
+  pub no_number_due : tabulate 2 (still_due (over_links push_forward 2 []) (usually 10) (nan ∷ inf false ∷ [])) ≡ false ∷ true ∷ []
   -- the choice of adaptive_solve: the out-degree of the source against 2 × the in-degree of the target
   pub by_both : method 3 (rows_of 3 (fork one one)) 0 1 ≡ both
   pub by_backward : method 3 (rows_of 3 (fork one two)) 0 1 ≡ backward_alone
@@ -336,7 +279,7 @@ pub record Worked : Type 0 where
 
 -- the list holds
 pub worked : Worked
-unfolding if◌then◌else◌ tabulate how_many kept gives row_of rows_of sum_from degree into into_from transposed taken answer offered better best_from next usual ruled adapted effective share_of way_of over degree_of each blank queued gain absorb threshold_after counted offer pass hand_out push stops goes_on due skips visit turn onward run inside watchable begun start enough solve still_due pushed distinct any visited_count score_at extrapolated combined by_degrees method_among method add_squares fits of_bits of_int add sub mul div lt le odd
+unfolding if◌then◌else◌ tabulate how_many kept gives row_of rows_of sum_from degree into into_from transposed taken answer offered better best_from next usual adapted effective transition share_of way_of over degree_of each blank queued gain absorb threshold_after counted offer pass hand_out push stops goes_on due skips visit turn onward run inside watchable begun start enough solve still_due pushed distinct any visited_count score_at extrapolated combined by_degrees method_among method add_squares fits of_bits of_int add sub mul div lt le odd
 worked =
     record {
       chain_forward = refl;
@@ -366,20 +309,6 @@ worked =
       root_least = Roots.least;
       product_first = refl;
       quotient_first = refl;
-      light_by_out_degree = refl;
-      quotient_first_by_out_degree = refl;
-      brought_of_one = refl;
-      brought_of_two = refl;
-      brought_of_half = refl;
-      brought_of_least = refl;
-      brought_of_three_least = refl;
-      brought_of_nothing = refl;
-      brought_of_less = refl;
-      brought_past_numbers = refl;
-      brought_of_no_number = refl;
-      passed_past_numbers = refl;
-      offered_for_nothing = refl;
-      offered_over_effective = refl;
       light_forward = refl;
       own_link = refl;
       priority_stays = refl;

@@ -5,5 +5,4 @@ pub mod Answers
 pub mod Pushed
 pub mod Reach
 pub mod StillDue
-pub mod Ruled
 pub mod Cases

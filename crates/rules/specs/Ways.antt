@@ -2,9 +2,8 @@
 -- Assumes nothing.
 use Rattle.std.specs.Prelude.{ℕ, Bool, true, false, List, [], get_or, Float}
 use Rattle.std.specs.Float.Ieee.{lt}
-use Rattle.numbers.specs.Numbers.{+0, one, ◌⊗◌, ◌⊘◌}
+use Rattle.numbers.specs.Numbers.{one, ◌⊗◌, ◌⊘◌}
 use Rattle.numbers.specs.Choice.{if◌then◌else◌}
-use Rattle.refusals.specs.declared.Settings.{Settings}
 use Rattle.graph.specs.Rows.{Link, Entry, rows_of, degree, transposed}
 
 -- ---- directions, degrees and shares
@@ -21,14 +20,14 @@ push_backward = true
 unfoldable pub effective : Float → Float
 effective degree = if lt one degree then degree else one
 
+-- the part of its mass that a node with this out-degree passes on by a link of this weight: the division of backward links
+unfoldable pub transition : Float → Float → Float
+transition weight out = weight ⊘ effective out
+
 -- What an entry gets of the rest. Forward, the rest is multiplied by the weight first and divided by the degree of the row second. Backward, the
--- weight is divided first, by e of the out-degree of the entry's own node, and then the rest is multiplied by it. The other division rule divides by
--- that out-degree itself, and where it is not above zero, the entry gets +0.
-unfoldable pub share_of : Bool → Bool → Float → Float → Float → Float → Float
-share_of is_backward by_out_degree rest degree weight out =
-    if is_backward
-    then (if by_out_degree then (if lt +0 out then rest ⊗ (weight ⊘ out) else +0) else rest ⊗ (weight ⊘ effective out))
-    else (rest ⊗ weight) ⊘ degree
+-- weight is divided first, by the out-degree of the entry's own node, and then the rest is multiplied by it.
+unfoldable pub share_of : Bool → Float → Float → Float → Float → Float
+share_of is_backward rest degree weight out = if is_backward then rest ⊗ transition weight out else (rest ⊗ weight) ⊘ degree
 
 -- ---- ways
 
@@ -37,22 +36,21 @@ pub record Way : Type 0 where
   pub row : ℕ → List Entry
   pub share : Float → Float → Entry → Float
 
--- the way of a direction and a division rule, by the rows that are gone through and the nodes' out_degrees
-unfoldable pub way_of : Bool → Bool → (ℕ → List Entry) → (ℕ → Float) → Way
-way_of is_backward by_out_degree row out = record { row = row; share = λ rest degree x. share_of is_backward by_out_degree rest degree x.weight (out x.node) }
+-- the way of a direction, by the rows that are gone through and the nodes' out_degrees
+unfoldable pub way_of : Bool → (ℕ → List Entry) → (ℕ → Float) → Way
+way_of is_backward row out = record { row = row; share = λ rest degree x. share_of is_backward rest degree x.weight (out x.node) }
 
 -- the row of v
 abbrev pub row_at : List (List Entry) → ℕ → List Entry
 row_at rows v = get_or rows v []
 
--- the way of a direction over a graph of n nodes, by the settings, which have the division rule, and the rows: backward goes through the transposed ones
-unfoldable pub over : Settings → Bool → ℕ → List (List Entry) → Way
-over s is_backward n rows =
-    way_of is_backward s.divide_by_out_degree (row_at (if is_backward then transposed n rows else rows)) (λ v. degree (row_at rows v))
+-- the way of a direction over a graph of n nodes, by its rows: backward goes through the transposed ones
+unfoldable pub over : Bool → ℕ → List (List Entry) → Way
+over is_backward n rows = way_of is_backward (row_at (if is_backward then transposed n rows else rows)) (λ v. degree (row_at rows v))
 
 -- the same of a list of links
-abbrev pub over_links : Settings → Bool → ℕ → List Link → Way
-over_links s is_backward n links = over s is_backward n (rows_of n links)
+abbrev pub over_links : Bool → ℕ → List Link → Way
+over_links is_backward n links = over is_backward n (rows_of n links)
 
 -- d: the degree of v, which is its out-degree forward and its in-degree backward
 unfoldable pub degree_of : Way → ℕ → Float

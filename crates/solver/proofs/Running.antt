@@ -62,4 +62,4 @@ pub record Running (settings : Settings) (backward : Bool) (watch : Watch) (n : 
   pub same_queued : length h.queued ≡ length h₀.queued
   pub same_visited : length h.visited ≡ length h₀.visited
   pub beyond : SameBeyond n h₀.visited h.visited
-  pub left : (way : Way) → Stands n backward settings.divide_by_out_degree l way → end way settings watch (state_of n h) ≡ end way settings watch (state_of n h₀)
+  pub left : (way : Way) → Stands n backward l way → end way settings watch (state_of n h) ≡ end way settings watch (state_of n h₀)

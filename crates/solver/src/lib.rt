@@ -57,7 +57,7 @@ fn run<'a>(
 ) -> Progress
     requires { Ready (length degrees.now) backward (lists_in starts columns reverse_columns weights reverse_weights degrees out_degrees)
         (holding_in p estimate residual priorities nodes queued visited) × Sound settings }
-    ensures { Ran (Stands (length degrees.now) backward settings.divide_by_out_degree (lists starts columns reverse_columns weights reverse_weights degrees out_degrees)) settings (watch_in watch)
+    ensures { Ran (Stands (length degrees.now) backward (lists starts columns reverse_columns weights reverse_weights degrees out_degrees)) settings (watch_in watch)
         (length degrees.now) (holding_before p estimate residual priorities nodes queued visited) (holding_after result estimate residual priorities nodes queued visited) }
 {
     let mut w = p;
@@ -107,7 +107,7 @@ pub fn solve<'a>(
 ) -> Progress
     requires { Rows (length degrees.now) backward (lists_in starts columns reverse_columns weights reverse_weights degrees out_degrees)
         × Room (length degrees.now) estimate.old residual.old priorities.old nodes.old queued.old visited.old × (length sources.now ≤ 65536) × Sound settings }
-    ensures { LeavesState (Stands (length degrees.now) backward settings.divide_by_out_degree (lists starts columns reverse_columns weights reverse_weights degrees out_degrees))
+    ensures { LeavesState (Stands (length degrees.now) backward (lists starts columns reverse_columns weights reverse_weights degrees out_degrees))
         (λ way. Rules.solve way settings (watch_in watch) (length degrees.now) sources.now)
         (length degrees.now) (holding_after result estimate residual priorities nodes queued visited) }
 {

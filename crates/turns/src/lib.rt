@@ -47,7 +47,7 @@ fn visit<'a>(
 ) -> Progress
     requires { Ready (length degrees.now) backward (lists_in starts columns reverse_columns weights reverse_weights degrees out_degrees)
         (holding_in p estimate residual priorities nodes queued visited) × (v < length degrees.now) × (p.pushes < settings.max_pushes) × Sound settings }
-    ensures { Visited (Stands (length degrees.now) backward settings.divide_by_out_degree (lists starts columns reverse_columns weights reverse_weights degrees out_degrees))
+    ensures { Visited (Stands (length degrees.now) backward (lists starts columns reverse_columns weights reverse_weights degrees out_degrees))
         (λ way. Rules.visit way settings v) (length degrees.now)
         (holding_before p estimate residual priorities nodes queued visited) (holding_after result estimate residual priorities nodes queued visited) }
 {
@@ -59,7 +59,6 @@ fn visit<'a>(
     let pushed = pushes::push_node(
         settings.alpha,
         backward,
-        settings.divide_by_out_degree,
         q,
         v,
         starts,
@@ -102,7 +101,7 @@ pub fn turn<'a>(
 ) -> Progress
     requires { Ready (length degrees.now) backward (lists_in starts columns reverse_columns weights reverse_weights degrees out_degrees)
         (holding_in p estimate residual priorities nodes queued visited) × (0 < p.queue.size) × (p.pushes < settings.max_pushes) × Sound settings }
-    ensures { Turned (Stands (length degrees.now) backward settings.divide_by_out_degree (lists starts columns reverse_columns weights reverse_weights degrees out_degrees)) settings
+    ensures { Turned (Stands (length degrees.now) backward (lists starts columns reverse_columns weights reverse_weights degrees out_degrees)) settings
         (length degrees.now) (holding_before p estimate residual priorities nodes queued visited) (holding_after result estimate residual priorities nodes queued visited) }
 {
     let q = p.queue;

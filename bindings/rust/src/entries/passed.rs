@@ -19,9 +19,6 @@ pub struct Settings {
     pub raising_factor: f64,
     pub lowering_factor: f64,
     pub threshold_floor: f64,
-    /// Whether a backward push divides the weight of a link by the out-degree of the node that it leaves, and adds +0 there if that is
-    /// 0. If not, it divides by that out-degree, or by 1 if it is below 1. A forward solve makes no use of it.
-    pub divide_by_out_degree: bool,
 }
 
 impl Settings {
@@ -38,7 +35,6 @@ impl Settings {
         raising_factor: 1.1,
         lowering_factor: 0.9,
         threshold_floor: 1e-12,
-        divide_by_out_degree: false,
     };
 }
 

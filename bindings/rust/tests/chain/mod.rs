@@ -1,6 +1,4 @@
-//! The chain of docs/RULES.md: two nodes and a link from 0 to 1, its settings, and what its two solves give. And what makes a call
-//! in both forms. Not every test has a use for all of it.
-#![allow(dead_code, unused_imports, unused_macros)]
+//! The chain of docs/RULES.md: two nodes and a link from 0 to 1, its settings, and what its two solves give.
 use talwighest::{Links, Rows, Settings, Solution};
 
 /// Alpha, epsilon and threshold of the cases, and at most so many pushes.
@@ -33,13 +31,3 @@ pub fn forward() -> Solution {
 pub fn backward() -> Solution {
     Solution { estimate: vec![0.375, 0.5], residual: vec![0.125, 0.0], ..forward() }
 }
-
-/// What both forms of a call give: on links, and on their rows.
-macro_rules! in_both_forms {
-    ($links:expr, $rows:expr, $call:ident($($given:expr),*)) => {{
-        let answer = $links.$call($($given),*);
-        assert_eq!(answer, $rows.$call($($given),*));
-        answer.unwrap()
-    }};
-}
-pub(crate) use in_both_forms;

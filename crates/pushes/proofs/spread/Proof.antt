@@ -12,11 +12,11 @@ use Rattle.pushes.proofs.spread.Statement.{statement}
 use Rattle.pushes.proofs.spread.Tie as tie
 
 abbrev invariant-loop : tie.invariant-loop
-invariant-loop backward by_out_degree rest degree columns weights degrees out_degrees residual₀ priorities₀ nodes₀ queued₀ w₀ i₀ residual priorities nodes queued w i =
-    Spreading backward by_out_degree rest degree columns weights degrees out_degrees (pending w₀ residual₀ priorities₀ nodes₀ queued₀) (pending w residual priorities nodes queued) i
+invariant-loop backward rest degree columns weights degrees out_degrees residual₀ priorities₀ nodes₀ queued₀ w₀ i₀ residual priorities nodes queued w i =
+    Spreading backward rest degree columns weights degrees out_degrees (pending w₀ residual₀ priorities₀ nodes₀ queued₀) (pending w residual priorities nodes queued) i
 
 abbrev decreases-loop : tie.decreases-loop
-decreases-loop backward by_out_degree rest degree columns weights degrees out_degrees residual₀ priorities₀ nodes₀ queued₀ w₀ i₀ residual priorities nodes queued w i = length columns - i
+decreases-loop backward rest degree columns weights degrees out_degrees residual₀ priorities₀ nodes₀ queued₀ w₀ i₀ residual priorities nodes queued w i = length columns - i
 
 loop-holds : tie.Need-loop-init invariant-loop decreases-loop
 loop-holds c = record { up_to = zero-le; lent = c.before.before.before.before.before.before.before.before.requires.lent; same_words = refl; left = λ way a e k m. refl }
@@ -69,7 +69,7 @@ loop-again c =
       left = λ way w e k m.
           ap (each (pass way a.rest a.degree) (entries_of (drop (l.i + 1) a.columns.now) (drop (l.i + 1) a.weights.now)))
           (o.ensures.state way (w.weighs _ b) e k m ∙ rw c.before.before.before.before.before.before.before.before.before.before.before.before.before.share.ensures)
-          ∙ sym (one_passes a.backward a.by_out_degree a.rest a.degree a.columns.now a.weights.now a.degrees.now a.out_degrees.now way w s.requires.paired l.i h b _)
+          ∙ sym (one_passes a.backward a.rest a.degree a.columns.now a.weights.now a.degrees.now a.out_degrees.now way w s.requires.paired l.i h b _)
           ∙ l.invariant.left way w e k m;
     }
 

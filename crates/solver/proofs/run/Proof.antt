@@ -45,8 +45,8 @@ loop-less c =
     let t = c.before.before.before.before.before.before.before.before.before.before.before.before.turn in
     let n = length a.degrees.now in
     let g = lists_in a.starts a.columns a.reverse_columns a.weights a.reverse_weights a.degrees a.out_degrees in
-    let way = way_in a.backward a.settings.divide_by_out_degree g in
-    let st = stands n a.backward a.settings.divide_by_out_degree g in
+    let way = way_in a.backward g in
+    let st = stands n a.backward g in
     (goes a.settings (watch_in a.watch) (state_of n (holding l.w l.estimate l.residual l.priorities l.nodes l.queued l.visited)) l.w.queue.size
     (sym (c.before.before.before.before.before.before.before.before.before.before.before.before.before.before.before.before.before.before.before.before.goes_on.ensures n l.priorities l.nodes l.visited) ∙ c.before.before.before.before.before.before.before.before.before.before.before.before.before.before.before.before.before.before.before.if1.true) way t.ensures.node t.ensures.priority t.ensures.was_next _
     (t.ensures.after.state way st)).1

@@ -3,10 +3,10 @@
 //! admits the crate, computing the rules gave the same.
 //!
 //! `rules FOLDER`, or `rules FOLDER planted`, which writes one graph alone, and one answer of it wrong
+use extended::adaptions;
 use extended::graph::PushGraph;
 use extended::solver::backward_push::{BackwardPushSolver, BidirectionalPushSolver};
 use extended::solver::forward_push::ForwardPushSolver;
-use extended::{adaptions, divisions};
 use runs::calls::extended::{backward_config, forward_config, Run};
 use runs::calls::left;
 use runs::entries::Settings;
@@ -20,15 +20,6 @@ const GRAPHS: u64 = 40;
 /// What becomes of some threshold, as `adaptions` names it.
 const ADAPTIONS: [&str; 6] =
     ["raised", "lowered", "kept by the floor", "kept by both sizes", "turned to zero", "again from zero"];
-
-/// What some weight is divided by where a push goes by the out-degree itself, as `divisions` names it.
-const DIVISIONS: [&str; 5] = [
-    "by a subnormal out-degree",
-    "by another below 1",
-    "by one above 1",
-    "+0 for an out-degree of zero",
-    "of a weight of minus zero",
-];
 
 const HEADER: &str = "\
 -- What the Rust answers on seeded small graphs, as equations with the rules. Made by oracle/rules.
@@ -46,7 +37,7 @@ use Rattle·norm.specs.Norm.{Norm, addSquares}
 use Rattle·marks.specs.Marks.{howMany}
 use Rattle·graph.specs.Rows.{Link, link, kept, gives, rowOf, rowsOf, sumFrom, degree, into, intoFrom, transposed}
 use Rattle·queue.specs.Waiting.{waits, taken, answer, offered, better, bestFrom, next, adapted}
-use Rattle·rules.specs.Ways.{pushForward, pushBackward, effective, shareOf, wayOf, over, overLinks, degreeOf}
+use Rattle·rules.specs.Ways.{pushForward, pushBackward, effective, transition, shareOf, wayOf, over, overLinks, degreeOf}
 use Rattle·rules.specs.Rules.{each, State, unwatched, watched, blank, queued, gain, absorb, thresholdAfter, counted, offer, pass, handOut, push}
 use Rattle·rules.specs.Rules.{stops, goesOn, due, skips, visit, turn, onward, run, inside, watchable, begun, start, enough, solve}
 use Rattle·rules.specs.Answers.{visitedCount, scoreAt, extrapolated, combined, byDegrees, methodAmong, method, answerBy}
@@ -62,7 +53,7 @@ shown s = ending (s .pushes) (visitedCount s) (s .estimate) (s .residual)
 ";
 
 const UNFOLDING: &str = "unfolding if_then_else_ tabulate howMany kept gives rowOf rowsOf sumFrom degree into intoFrom \
-transposed taken answer offered better bestFrom next adapted effective shareOf wayOf over degreeOf each \
+transposed taken answer offered better bestFrom next adapted effective transition shareOf wayOf over degreeOf each \
 blank queued gain absorb thresholdAfter counted offer pass handOut push stops goesOn due skips visit turn onward run \
 inside watchable begun start enough solve stillDue visitedCount scoreAt extrapolated combined byDegrees methodAmong method answerBy \
 addSquares ofBits ofInt add sub mul div lt le odd";
@@ -127,7 +118,7 @@ impl Written {
     fn solve(&mut self, name: &str, side: &Side, watch: &str, from: &[usize], r: &Run) {
         let (graph, direction, n) = (self.graph, side.direction, r.residual.len());
         let pushes = r.push_count + usize::from(std::mem::take(&mut self.planted));
-        let way = format!("(overLinks {direction}-{graph} {direction} {n} links-{graph}) {direction}-{graph}");
+        let way = format!("(overLinks {direction} {n} links-{graph}) {direction}-{graph}");
         let rules = format!("shown (solve {way} {watch} {n} ({}))", nodes(from));
         let residual = numbers(&r.residual);
         let rust = format!("ending {pushes} {} ({}) ({residual})", r.nodes_visited, numbers(&r.estimate));
@@ -163,7 +154,6 @@ fn settings(random: &mut Random, adapting: bool) -> Settings {
         max_pushes: random.below(21),
         queue_threshold: random.one_of(&[0.0, 1e-8, 0.01, 0.1, 0.25]),
         adaptive_threshold: random.below(2) == 0,
-        divide_by_out_degree: random.below(2) == 0,
         ..Settings::DEFAULT
     };
     if !adapting {
@@ -184,15 +174,13 @@ fn settings(random: &mut Random, adapting: bool) -> Settings {
     }
 }
 
-/// A small graph, whose out-degrees are low or not, with settings by which the threshold adapts or not.
-fn small(random: &mut Random, low: bool, adapting: bool) -> Given {
+fn small(random: &mut Random, adapting: bool) -> Given {
     let n = 1 + random.below(5) as usize;
     let links = (0..random.below(3 * n as u64 + 1))
         .map(|_| {
             let unit = random.unit();
-            let lower = [0.0, -0.0, 0.1, 0.25, 0.5, 0.25 * unit, 1e-310];
-            let any = [1.0, 1.0, 0.5, 2.0, 0.0, -0.0, 0.1, unit, unit, 3.0 * unit, 1e-310, 1_048_576.0];
-            (node(random, n), node(random, n), random.one_of(if low { &lower } else { &any }))
+            let weights = [1.0, 1.0, 0.5, 2.0, 0.0, -0.0, 0.1, unit, unit, 3.0 * unit, 1e-310, 1_048_576.0];
+            (node(random, n), node(random, n), random.one_of(&weights))
         })
         .collect();
     let (forward, backward) = (settings(random, adapting), settings(random, adapting));
@@ -213,7 +201,6 @@ fn record(c: &Settings) -> String {
         ("«raising_factor»", bits(c.raising_factor)),
         ("«lowering_factor»", bits(c.lowering_factor)),
         ("«threshold_floor»", bits(c.threshold_floor)),
-        ("«divide_by_out_degree»", c.divide_by_out_degree.to_string()),
     ];
     format!("record {{ {} }}", fields.map(|(name, value)| format!("{name} = {value}")).join("; "))
 }
@@ -254,7 +241,7 @@ fn write(w: &mut Written, g: &Given, random: &mut Random) {
     w.solve("with-source", &against, &watch(source), &[target], &stopped);
 
     let rules = |direction: &str, v: usize| {
-        format!("(solve (overLinks {direction}-{graph} {direction} {n} links-{graph}) {direction}-{graph} unwatched {n} ({v} ∷ []))")
+        format!("(solve (overLinks {direction} {n} links-{graph}) {direction}-{graph} unwatched {n} ({v} ∷ []))")
     };
     let (f, b) = (rules("pushForward", source), rules("pushBackward", target));
     w.equation("entry", &format!("scoreAt {f} {target}"), &bits(forward.query_single_entry(source, target)));
@@ -289,9 +276,8 @@ fn write_long(w: &mut Written) {
     writeln!(w.text, "\nabbrev links-{graph} : List Link\nlinks-{graph} = {link}").expect("a string");
     writeln!(w.text, "\nabbrev settings-{graph} : Settings\nsettings-{graph} = {record}").expect("a string");
     for direction in ["pushForward", "pushBackward"] {
-        let way = format!("(overLinks settings-{graph} {direction} 1 links-{graph}) settings-{graph} unwatched");
-        let run = format!("run {way}");
-        let mut from = format!("(start {way} {node})");
+        let run = format!("run (overLinks {direction} 1 links-{graph}) settings-{graph} unwatched");
+        let mut from = format!("(start (overLinks {direction} 1 links-{graph}) settings-{graph} unwatched {node})");
         let mut turns = [CUTS[0], CUTS[1] - CUTS[0], 2 * CUTS[2] + 1 - CUTS[1]].into_iter();
         for cut in CUTS {
             let made = PushGraph::from_edges(1, &links);
@@ -315,7 +301,7 @@ fn write_long(w: &mut Written) {
             from = format!("state-{name}");
         }
         let part = |cut: usize| format!("part-{direction}-{cut}-{graph}");
-        let add = format!("run-add {way} {}", CUTS[0]);
+        let add = format!("run-add (overLinks {direction} 1 links-{graph}) settings-{graph} unwatched {}", CUTS[0]);
         let rest = 2 * CUTS[2] + 1 - CUTS[0];
         let proof = format!(
             "{add} {rest} _ ∙ ap ({run} {rest}) {} ∙ {add} {} state-{direction}-{} ∙ ap ({run} {}) {} ∙ {}",
@@ -329,17 +315,11 @@ fn write_long(w: &mut Written) {
         w.count += 1;
         writeln!(
             w.text,
-            "\nlong-{direction} : solve {way} {node} ≡ {from}\n\
+            "\nlong-{direction} : solve (overLinks {direction} 1 links-{graph}) settings-{graph} unwatched {node} ≡ {from}\n\
              unfolding solve enough\nlong-{direction} = {proof}"
         )
         .expect("a string");
     }
-}
-
-/// Demands that each of the named things was reached.
-fn require(names: &[&str], counts: &[(&str, u64)]) {
-    let is_reached = |name: &&str| counts.iter().any(|(kind, count)| kind == name && *count > 0);
-    assert!(names.iter().all(is_reached), "one of {names:?} was never reached: {counts:?}");
 }
 
 fn main() {
@@ -349,13 +329,14 @@ fn main() {
     let mut random = Random::new(7);
     for graph in 0..if planted { 1 } else { GRAPHS } {
         written.graph = graph;
-        // The thresholds of every second graph adapt, and every third has low out-degrees.
-        let given = small(&mut random, graph % 3 == 2, graph % 2 == 1);
+        // The thresholds of every second graph adapt.
+        let given = small(&mut random, graph % 2 == 1);
         write(&mut written, &given, &mut random);
     }
     if !planted {
-        require(&ADAPTIONS, &adaptions::counts());
-        require(&DIVISIONS, &divisions::counts());
+        let reached = adaptions::counts();
+        let is_reached = |name: &&str| reached.iter().any(|(kind, count)| kind == name && *count > 0);
+        assert!(ADAPTIONS.iter().all(is_reached), "thresholds adapt in each of these ways: {reached:?}");
         written.graph = GRAPHS;
         write_long(&mut written);
     }

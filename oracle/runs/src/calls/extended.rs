@@ -1,4 +1,4 @@
-//! The extended Rust, which has the adaptive numbers and the division rule as settings: what every call is held to.
+//! The extended Rust, which has the adaptive numbers as settings: what every call is held to.
 #[path = "theirs.rs"]
 mod theirs;
 
@@ -9,9 +9,9 @@ use rust::solver::backward_push::BackwardPushConfig;
 use rust::solver::forward_push::ForwardPushConfig;
 pub use theirs::{done, Run, Theirs};
 
-/// Settings as one of its solvers takes them: both have the same fields, and the backward one has others too.
+/// Settings as one of its solvers takes them: both have the same fields.
 macro_rules! config {
-    ($config:ident, $settings:ident $(, $other:ident)*) => {
+    ($config:ident, $settings:ident) => {
         $config {
             alpha: $settings.alpha,
             epsilon: $settings.epsilon,
@@ -24,7 +24,6 @@ macro_rules! config {
             raising_factor: $settings.raising_factor,
             lowering_factor: $settings.lowering_factor,
             threshold_floor: $settings.threshold_floor,
-            $($other: $settings.$other,)*
         }
     };
 }
@@ -36,7 +35,7 @@ pub fn forward_config(settings: &Settings) -> ForwardPushConfig {
 
 /// As the backward solver takes them.
 pub fn backward_config(settings: &Settings) -> BackwardPushConfig {
-    config!(BackwardPushConfig, settings, divide_by_out_degree)
+    config!(BackwardPushConfig, settings)
 }
 
 /// The graph that the repaired Rust has made, as this copy has it: nothing of it is patched.

@@ -1,4 +1,4 @@
-//! The repaired Rust, which has the adaptive numbers and one division rule in its code: it is asked where a call has these.
+//! The repaired Rust, which has the adaptive numbers in its code: it is asked where a call has these.
 #[path = "theirs.rs"]
 mod theirs;
 
@@ -10,18 +10,12 @@ use rust::solver::backward_push::BackwardPushConfig;
 use rust::solver::forward_push::ForwardPushConfig;
 pub use theirs::{done, Run, Theirs};
 
-/// Whether it can be asked for a forward solve with these settings: they have the adaptive numbers that are in its code. A division
-/// rule is of no use to it.
-pub fn takes_forward(settings: &Settings) -> bool {
+/// Whether it can be asked for a solve with these settings: they have the adaptive numbers that are in its code.
+pub fn takes(settings: &Settings) -> bool {
     adaptive_numbers(settings) == adaptive_numbers(&Settings::DEFAULT)
 }
 
-/// Whether it can be asked for a backward solve with them: they have its division rule, too.
-pub fn takes_backward(settings: &Settings) -> bool {
-    takes_forward(settings) && !settings.divide_by_out_degree
-}
-
-/// Settings as its forward solver takes them, without the adaptive numbers and the division rule.
+/// Settings as its forward solver takes them, without the adaptive numbers.
 pub fn forward_config(settings: &Settings) -> ForwardPushConfig {
     ForwardPushConfig {
         alpha: settings.alpha,

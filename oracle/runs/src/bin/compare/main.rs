@@ -8,9 +8,8 @@
 //! which itself is not called there, `jobs` the job program as a process. `planted` puts one wrong digit, or a wrong no, into
 //! some of the proved library's answers, of the square root, of each search for a link, of each call of the solvers, of each
 //! that is recorded and of the job program, to show that a difference is found, leaves a push due in the Rust's vectors of each
-//! solve that is held to the statement for the stop, puts a wrong digit into what one copy of the Rust answers to each question
-//! of the solvers, and lets each backward call answer as if the library were wrong about the division rules: the program must then
-//! fail, and it does so only where each is found.
+//! solve that is held to the statement for the stop, and puts a wrong digit into what one copy of the Rust answers to each question
+//! of the solvers: the program must then fail, and it does so only where each is found.
 //! With `for` it begins anew with the next seed, part by part, until so many minutes are over.
 //!
 //! `behind` puts every list that is lent right before memory that nothing may touch, and `before` right behind such memory, so

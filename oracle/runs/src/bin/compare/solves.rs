@@ -3,7 +3,6 @@
 //! held to the statement for the stop, and its two copies to each other.
 mod adaptive;
 mod boundaries;
-mod division;
 mod expected;
 mod numbers;
 mod stop;
@@ -15,9 +14,8 @@ use crate::calls::sound::{MOST_LINKS, MOST_NODES, MOST_OF_MANY};
 use crate::calls::{damaged, empty, limits, lists, sharing, wishes};
 use crate::Asked;
 pub use adaptive::Layout;
-use division::{Division, AT_LEAST_ONE, BELOW_ONE, OF_ANY_SIZE};
 use expected::Expected;
-use extended::{adaptions, divisions};
+use extended::adaptions;
 use numbers::Numbers;
 use runs::calls::call::{Call, Wish};
 use runs::calls::entry::{Entry, Form, Question, Solver, Task};
@@ -44,7 +42,6 @@ pub fn compare(asked: &Asked, solver: Solver, comparison: &mut Comparison, rando
     solves.sharing(comparison, random);
     solves.adapting(comparison, random);
     solves.adaptive_numbers(comparison, random);
-    solves.division_rules(comparison, random);
     if solver == Solver::Bidirectional {
         let inputs = boundaries::drawn(random, asked.size(5_000, 200_000));
         solves.kind(comparison, "degrees at twice each other, and next to it", inputs.into_iter());
@@ -63,8 +60,7 @@ pub fn compare(asked: &Asked, solver: Solver, comparison: &mut Comparison, rando
 }
 
 /// Each call with a wrong digit in its answers on two nodes, each solve that is held to the statement for the stop with a push
-/// left due there, each question with a wrong digit in what one copy of the Rust answers, and each call that pushes backward with a
-/// library that is wrong about the division rules.
+/// left due there, and each question with a wrong digit in what one copy of the Rust answers.
 pub fn planted(solver: Solver, comparison: &mut Comparison, random: &mut Random) {
     let grid = wishes::grid();
     for entry in solver.entries() {
@@ -81,18 +77,6 @@ pub fn planted(solver: Solver, comparison: &mut Comparison, random: &mut Random)
         let inputs = on_small_graphs(random, solver, 2, 1, 1, &grid);
         let name = format!("{}, copies of the Rust, planted", question.name());
         comparison.kind(&name, inputs, |call| of_copy_spoiled(call, question), smaller);
-    }
-    if solver != Solver::Forward {
-        planted_divisions(Division(solver), comparison);
-    }
-}
-
-fn planted_divisions(division: Division, comparison: &mut Comparison) {
-    for (name, shows, wrong) in division::WRONG {
-        for entry in division.0.entries().into_iter().filter(|entry| entry.task().is_some_and(shows)) {
-            let name = format!("{}, {name}, planted", entry.name());
-            comparison.kind(&name, division.every(2, 2, 1, 2), |call| division.spoiled(call, entry, wrong), smaller);
-        }
     }
 }
 
@@ -111,7 +95,7 @@ fn on_small_graphs<'a>(
         let chosen: Vec<usize> = places.by_ref().take(each).collect();
         let call = graph.solving(solver.first_question());
         let wished = |place: usize| {
-            let settings = numbers::pair(random, grid, place).map(|settings| wishes::with_drawn_rule(random, settings));
+            let settings = numbers::pair(random, grid, place);
             call.clone().wishing(wishes::with_settings(random, &call, settings))
         };
         chosen.into_iter().map(wished).collect::<Vec<_>>()
@@ -165,8 +149,7 @@ impl Solves<'_> {
             let mut kind = |name: &str, inputs: &mut dyn Iterator<Item = Call>| {
                 comparison.kind(&format!("{}, {name}", entry.name()), inputs, of_call, smaller);
             };
-            let weights = limits::weights(entry).into_iter().flat_map(wishes::each_rule);
-            kind("limits of weight, in each place", &mut weights.into_iter());
+            kind("limits of weight, in each place", &mut limits::weights(entry).into_iter());
             kind("limits of settings and precision, each two", &mut wishes::limits(entry).into_iter());
             kind("each length, and each two", &mut limits::lengths(entry).into_iter());
             kind("each two damages", &mut damaged::pairs(entry, self.asked.full));
@@ -280,89 +263,6 @@ impl Solves<'_> {
         }
         let inputs = Numbers(self.solver).queues(random, self.size(1_200, 9_720).max(600));
         self.kind(comparison, "adaptive numbers about the queue's size at each step", inputs.into_iter());
-    }
-
-    /// Solves by either division rule, of which the backward solver has most.
-    fn division_rules(&self, comparison: &mut Comparison, random: &mut Random) {
-        self.every_division(comparison);
-        self.drawn_divisions(comparison, random);
-        self.divisions_alike(comparison, random);
-        if self.solver == Solver::Bidirectional {
-            let (inputs, unlike) = Division(self.solver).two_records(random, self.asked.size(1_500, 30_000).max(300));
-            self.kind(comparison, "each division rule in each of two records", inputs.into_iter());
-            self.reached(comparison, "scores unlike by the backward record's other rule", &[("calls", unlike)]);
-        }
-        if self.solver != Solver::Forward {
-            let name = format!("{}, P10 by either division rule, by hand", self.solver.name());
-            let inputs = division::p10(&self.solver.entries());
-            comparison.kind(&name, inputs.into_iter(), division::of_p10, |_| Vec::new());
-        }
-    }
-
-    /// The number of inputs where the backward solver has so many.
-    fn size_of_divisions(&self, gate: u64, full: u64) -> u64 {
-        let part = if self.solver == Solver::Backward { 1 } else { 5 };
-        self.asked.size(gate.div_ceil(part), full.div_ceil(part))
-    }
-
-    /// Every small graph; of larger ones one in a number that has no divisor in common with that of the choices of a link.
-    fn every_division(&self, comparison: &mut Comparison) {
-        let full = self.asked.full;
-        let classes = [
-            (1, 1, 1, self.asked.size(48, 48)),
-            (2, 1, 1, self.asked.size(96, 96)),
-            (3, 1, 1, self.asked.size(48, 144)),
-            (2, 2, 1, self.asked.size(4, 96)),
-            (3, 2, 1, self.asked.size(1, 12)),
-            (2, 3, if full { 1 } else { 13 }, self.asked.size(1, 4)),
-            (3, 3, if full { 5 } else { 199 }, 1),
-        ];
-        let part = if self.solver == Solver::Backward { 1 } else { 5 };
-        for (nodes, links, one_in, each) in classes.into_iter().filter(|class| !self.asked.short || class.1 < 3) {
-            let name = format!("either division rule, lists of {nodes} nodes and {links} links, {each} wishes each");
-            self.kind(comparison, &name, Division(self.solver).every(nodes, links, part * one_in, each));
-        }
-    }
-
-    /// Random graphs with out-degrees below 1 and of any size. Backward pushes must come to all that can become of a share.
-    fn drawn_divisions(&self, comparison: &mut Comparison, random: &mut Random) {
-        let classes = [
-            ("below 1", BELOW_ONE, 8, 40, self.size_of_divisions(3_000, 60_000).max(100)),
-            ("below 1", BELOW_ONE, 64, 400, self.size_of_divisions(300, 6_000)),
-            ("of any size", OF_ANY_SIZE, 8, 40, self.size_of_divisions(3_000, 60_000).max(100)),
-            ("of any size", OF_ANY_SIZE, 12, 400, self.size_of_divisions(1_000, 20_000)),
-            ("of any size", OF_ANY_SIZE, 1_000, 10_000, self.size_of_divisions(10, 250)),
-        ];
-        let drawn =
-            classes.map(|(_, among, nodes, links, count)| Division(self.solver).drawn(random, among, nodes, links, count));
-        // What is counted from here on is of the inputs alone.
-        divisions::forget();
-        let [mut unlike, mut offered] = [0; 2];
-        for ((name, _, nodes, links, _), drawn) in classes.into_iter().zip(drawn) {
-            let name = format!("division by out-degrees {name}, lists of up to {nodes} nodes and {links} links");
-            self.kind(comparison, &name, drawn.calls.into_iter());
-            (unlike, offered) = (unlike + drawn.unlike, offered + drawn.offered);
-        }
-        if self.solver != Solver::Forward {
-            let shown = [("residuals unlike by the other rule", unlike), ("pushes for an offer of +0 alone", offered)];
-            self.reached(comparison, "division by out-degrees, solves that show it", &shown);
-            self.reached(comparison, "divisions by out-degrees", &divisions::counts());
-        }
-    }
-
-    /// Random graphs with out-degrees of at least 1, for which both copies of the Rust can be asked by either rule.
-    fn divisions_alike(&self, comparison: &mut Comparison, random: &mut Random) {
-        let small = self.size_of_divisions(2_000, 40_000).max(100);
-        let [_, _, (_, before)] = expected::alike();
-        for (nodes, links, count) in [(8, 40, small), (64, 400, self.size_of_divisions(200, 4_000))] {
-            let drawn = Division(self.solver).drawn(random, AT_LEAST_ONE, nodes, links, count);
-            assert_eq!(drawn.unlike, 0, "both rules divide by the same");
-            let name = format!("division by out-degrees of at least 1, lists of up to {nodes} nodes and {links} links");
-            self.kind(comparison, &name, drawn.calls.into_iter());
-        }
-        let [_, _, (_, after)] = expected::alike();
-        let answers = [("answers of both copies of the Rust", after - before)];
-        self.reached(comparison, "division by out-degrees of at least 1", &answers);
     }
 
     fn watched_and_many(&self, comparison: &mut Comparison, random: &mut Random) {

@@ -1,14 +1,14 @@
 //! Measures the proved library beside the Rust, in one run, and prints tables in Markdown. A ratio above 1 says that the
 //! proved library takes longer.
 //!
-//! measure [calls | edges | job | growth | names | once NAME [ours | theirs | neither] | stores NAME (default | zero | divided) PUSHES]
+//! measure [calls | edges | job | growth | names | once NAME [ours | theirs | neither] | stores NAME (default | zero) PUSHES]
 //!
 //! Without a word it measures everything: each call by itself, the job program, and growth with nodes and with links,
 //! which draws docs/growth-nodes.svg and docs/growth-links.svg. `edges` is the part of `calls` that searches rows for a link.
 //! With `once` both sides work once, untimed, or one of them, or neither, for a tool that counts instructions: NAME is one
 //! of those that `names` prints. `once job` prints a job at its limits, for `job` and `rust_job` to read. `stores` prints
-//! where the queue's two buffers lie, and solves with default settings, with thresholds of zero, or with these and division by
-//! out-degrees, for a tool that counts the stores into them.
+//! where the queue's two buffers lie, and solves with default settings or with thresholds of zero, for a tool that counts
+//! the stores into them.
 mod edges;
 mod given;
 mod graph;
@@ -51,12 +51,9 @@ fn main() {
         ["once", name, side @ ("ours" | "theirs" | "neither")] => once(name, side),
         ["stores", name, "default", pushes] => stores(name, Settings::DEFAULT, pushes),
         ["stores", name, "zero", pushes] => stores(name, solves::all_of(0), pushes),
-        ["stores", name, "divided", pushes] => {
-            stores(name, Settings { divide_by_out_degree: true, ..solves::all_of(0) }, pushes)
-        }
         _ => panic!(
             "measure [calls | edges | job | growth | names | once NAME [ours | theirs | neither] \
-             | stores NAME (default | zero | divided) PUSHES]"
+             | stores NAME (default | zero) PUSHES]"
         ),
     }
 }

@@ -4,7 +4,7 @@ use super::smaller::smaller;
 use super::sound::{
     buffers, sound, with_length, with_links, with_nodes, MOST_LINKS, MOST_NODES, MOST_OF_MANY, MOST_PUSHES,
 };
-use super::wishes::{each_link, each_rule, records, with_rule, SettingsOf};
+use super::wishes::{each_link, records, SettingsOf};
 use runs::calls::call::Call;
 use runs::calls::entry::{Entry, Task};
 use runs::calls::refusal::applies;
@@ -122,11 +122,11 @@ fn of_adaptive_numbers(record: SettingsOf) -> Vec<Damage> {
     found
 }
 
-/// Compares each damage by itself, of a solve with either division rule, which makes no difference to a refusal. Each refusal of a
-/// call that writes must meet NaNs of both kinds, so that a list which is read and written back is seen.
+/// Compares each damage by itself. Each refusal of a call that writes must meet NaNs of both kinds, so that a list which is read
+/// and written back is seen.
 pub fn compare_each(entry: Entry, comparison: &mut Comparison, of_call: impl Fn(&Call) -> Option<String>) {
     made::forget();
-    let inputs = singles(entry).into_iter().flat_map(each_link).flat_map(each_rule);
+    let inputs = singles(entry).into_iter().flat_map(each_link);
     comparison.kind(&format!("{}, each damage", entry.name()), inputs, of_call, smaller);
     if !entry.written().is_empty() {
         let left = made::nans_left(&numbers(entry));
@@ -160,8 +160,8 @@ fn numbers(entry: Entry) -> Vec<u32> {
     found
 }
 
-/// Each two damages of different numbers, one after the other, with one division rule or the other. With too many links, where
-/// `all_long` is not asked, only one damage of each other number.
+/// Each two damages of different numbers, one after the other. With too many links, where `all_long` is not asked, only
+/// one damage of each other number.
 pub fn pairs(entry: Entry, all_long: bool) -> impl Iterator<Item = Call> {
     let all = damages(entry);
     let is_first = |place: usize| place == 0 || all[place - 1].number != all[place].number;
@@ -178,7 +178,7 @@ pub fn pairs(entry: Entry, all_long: bool) -> impl Iterator<Item = Call> {
         let call = damaged(entry, [&all[first], &all[second]]);
         let both = [first, second].iter().all(|&place| applies(all[place].number, &call));
         assert!(both, "two damages break the conditions of both their numbers");
-        with_rule(call, (first + second) % 2 == 1)
+        call
     })
 }
 
@@ -187,8 +187,7 @@ pub fn pairs(entry: Entry, all_long: bool) -> impl Iterator<Item = Call> {
 pub fn several(random: &mut Random, entry: Entry, all: &[Damage]) -> Call {
     let least = random.one_of(&[1, 2, 2, 2, 4, 4, 5, 6]);
     let chosen = all.iter().filter(|damage| !damage.long && damage.number >= least && random.below(12) == 0);
-    let call = damaged(entry, chosen.collect::<Vec<_>>());
-    with_rule(call, random.below(2) == 0)
+    damaged(entry, chosen.collect::<Vec<_>>())
 }
 
 fn damaged<'a>(entry: Entry, damages: impl IntoIterator<Item = &'a Damage>) -> Call {

@@ -160,7 +160,6 @@ fn wishes_by_hand(entry: Entry) -> Vec<(Call, u32)> {
         found.push((wishing(&|wish| record(wish).lowering_factor = -5e-324), 6));
         found.push((wishing(&|wish| record(wish).threshold_floor = -0.0), 0));
         found.push((wishing(&|wish| record(wish).threshold_floor = f64::NAN), 6));
-        found.push((wishing(&|wish| record(wish).divide_by_out_degree = true), 0));
     }
     if let Some(task) = entry.task() {
         found.push((wishing(&|wish| wish.precision = -0.0), 0));

@@ -20,24 +20,17 @@ pub const SIZES: [(u32, usize, u64, u64); 6] = [
 /// Every list of up to `nodes` nodes and exactly `links` links, with ends up to the number of nodes, so also out of
 /// range, and with these weights.
 pub fn every<const WEIGHTS: usize>(nodes: u32, links: u32, weights: [f64; WEIGHTS]) -> impl Iterator<Item = Call> {
-    (0..=nodes).flat_map(move |n| of_ends(n, u64::from(n) + 1, links, weights))
-}
-
-/// Every list of exactly so many nodes and links, none of them out of range, with these weights.
-pub fn every_inside<const WEIGHTS: usize>(nodes: u32, links: u32, weights: [f64; WEIGHTS]) -> impl Iterator<Item = Call> {
-    of_ends(nodes, u64::from(nodes), links, weights)
-}
-
-/// Every list of so many nodes and links, with ends below this number.
-fn of_ends<const WEIGHTS: usize>(nodes: u32, ends: u64, links: u32, weights: [f64; WEIGHTS]) -> impl Iterator<Item = Call> {
-    let choices = ends * ends * weights.len() as u64;
-    let link = move |choice: u64| {
-        let (from, to) = (choice % ends, choice / ends % ends);
-        (from as u32, to as u32, weights[(choice / ends / ends) as usize])
-    };
-    (0..choices.pow(links)).map(move |number| {
-        let list: Vec<_> = (0..links).map(|place| link(number / choices.pow(place) % choices)).collect();
-        Call::on_links(nodes, &list)
+    (0..=nodes).flat_map(move |n| {
+        let ends = u64::from(n) + 1;
+        let choices = ends * ends * weights.len() as u64;
+        let link = move |choice: u64| {
+            let (from, to) = (choice % ends, choice / ends % ends);
+            (from as u32, to as u32, weights[(choice / ends / ends) as usize])
+        };
+        (0..choices.pow(links)).map(move |number| {
+            let list: Vec<_> = (0..links).map(|place| link(number / choices.pow(place) % choices)).collect();
+            Call::on_links(n, &list)
+        })
     })
 }
 

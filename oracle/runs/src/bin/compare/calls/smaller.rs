@@ -166,7 +166,7 @@ fn with_smaller_wishes(call: &Call) -> Vec<Call> {
 /// The parts of a settings record but its number of pushes: whether two records have the same, and what takes it over.
 type Part = (fn(&Settings, &Settings) -> bool, fn(&mut Settings, &Settings));
 
-const PARTS: [Part; 11] = [
+const PARTS: [Part; 10] = [
     (|a, b| same(a.alpha, b.alpha), |to, from| to.alpha = from.alpha),
     (|a, b| same(a.epsilon, b.epsilon), |to, from| to.epsilon = from.epsilon),
     (|a, b| same(a.queue_threshold, b.queue_threshold), |to, from| to.queue_threshold = from.queue_threshold),
@@ -177,10 +177,6 @@ const PARTS: [Part; 11] = [
     (|a, b| same(a.raising_factor, b.raising_factor), |to, from| to.raising_factor = from.raising_factor),
     (|a, b| same(a.lowering_factor, b.lowering_factor), |to, from| to.lowering_factor = from.lowering_factor),
     (|a, b| same(a.threshold_floor, b.threshold_floor), |to, from| to.threshold_floor = from.threshold_floor),
-    (
-        |a, b| a.divide_by_out_degree == b.divide_by_out_degree,
-        |to, from| to.divide_by_out_degree = from.divide_by_out_degree,
-    ),
 ];
 
 /// The call with each part of one settings record made plain, and with fewer pushes.

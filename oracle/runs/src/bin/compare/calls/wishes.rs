@@ -95,7 +95,6 @@ pub fn limits(entry: Entry) -> Vec<Call> {
         parts.push(changes(&AMOUNTS, move |wish, factor| record(wish).raising_factor = factor));
         parts.push(changes(&AMOUNTS, move |wish, factor| record(wish).lowering_factor = factor));
         parts.push(changes(&AMOUNTS, move |wish, floor| record(wish).threshold_floor = floor));
-        parts.push(changes(&[true], move |wish, divide| record(wish).divide_by_out_degree = divide));
     }
     if entry.task() == Some(Task::Watched) {
         parts.push(changes(&NUMBERS, |wish, number| wish.precision = number));
@@ -124,7 +123,7 @@ fn ends(call: &Call) -> bool {
     refusal(call) != 0 || records(call.entry).iter().all(|record| soon(record(&mut call.wish.clone())))
 }
 
-/// Settings of a few values each, all of them, with the default adaptive numbers and the default division rule.
+/// Settings of a few values each, all of them, with the default adaptive numbers.
 pub fn grid() -> Vec<Settings> {
     let mut found = Vec::new();
     for alpha in [0.0, -0.0, 0.15, 0.5, 1.0] {
@@ -157,26 +156,6 @@ pub fn each_link(call: Call) -> Vec<Call> {
     let absent = [(1, 2), (call.nodes, 0), (0, call.nodes)];
     let asking = |(source, target)| Call { wish: Wish { source, target, ..call.wish.clone() }, ..call.clone() };
     [call.clone()].into_iter().chain(absent.map(asking)).collect()
-}
-
-/// The call with this division rule in each settings record.
-pub fn with_rule(mut call: Call, divide_by_out_degree: bool) -> Call {
-    records(call.entry).iter().for_each(|record| record(&mut call.wish).divide_by_out_degree = divide_by_out_degree);
-    call
-}
-
-/// The call by each division rule, where it is a solve.
-pub fn each_rule(call: Call) -> Vec<Call> {
-    match call.entry.task() {
-        None => vec![call],
-        Some(_) => [false, true].map(|divide_by_out_degree| with_rule(call.clone(), divide_by_out_degree)).into(),
-    }
-}
-
-/// The settings with a division rule that is drawn. Two in three have the default one, for which both copies of the Rust can be
-/// asked.
-pub fn with_drawn_rule(random: &mut Random, settings: Settings) -> Settings {
-    Settings { divide_by_out_degree: random.below(3) == 0, ..settings }
 }
 
 /// The next number up from one that is not below zero.
@@ -226,7 +205,7 @@ fn settings(random: &mut Random) -> Settings {
         queue_threshold: random.one_of(&[0.0, 0.0, -0.0, 1e-300, 1e-8, 1e-5, 1e-3 * unit, 0.25, 2.0]),
         max_pushes: if random.below(8) == 0 { many } else { few },
         adaptive_threshold: random.below(2) == 0,
-        ..with_drawn_rule(random, Settings::DEFAULT)
+        ..Settings::DEFAULT
     };
     // One in four has other adaptive numbers.
     if random.below(4) > 0 {

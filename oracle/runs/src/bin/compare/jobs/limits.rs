@@ -7,7 +7,7 @@ use crate::calls::wishes::next_up;
 use crate::calls::{limits, wishes};
 use runs::calls::call::{Call, Wish, CHAIN_SETTINGS};
 use runs::calls::entry::{Entry, Form};
-use runs::calls::repaired::takes_forward;
+use runs::calls::repaired;
 use runs::entries::Settings;
 use runs::jobs::bytes::{laid_out, MOST_LINKS, MOST_NODES, MOST_SOURCES, QUESTION};
 
@@ -18,13 +18,11 @@ pub fn weights() -> Vec<Input> {
     limits::weights(ENTRY).iter().map(Input::of).collect()
 }
 
-/// Every number at a limit, in each place of a small job and in each two, as far as it has room in a job: the adaptive numbers and
-/// the division rule have none.
+/// Every number at a limit, in each place of a small job and in each two, as far as it has room in a job: the adaptive numbers have
+/// none.
 pub fn settings() -> Vec<Input> {
-    let has_room = |call: &Call| {
-        let settings = &call.wish.settings;
-        u32::try_from(settings.max_pushes).is_ok() && takes_forward(settings) && !settings.divide_by_out_degree
-    };
+    let has_room =
+        |call: &Call| u32::try_from(call.wish.settings.max_pushes).is_ok() && repaired::takes(&call.wish.settings);
     wishes::limits(ENTRY).into_iter().filter(has_room).map(|call| Input::of(&call)).collect()
 }
 

@@ -1,7 +1,7 @@
 //! Graphs and settings with which the threshold adapts: long queues, short ones, and those at the very size at which it
 //! begins to. Each kind is held to what that does to the number of pushes, so that it is known to happen: by an assertion where
 //! the plan makes it so, and where graphs are drawn by a count of those that show it.
-use crate::calls::{lists, wishes};
+use crate::calls::lists;
 use runs::calls::call::{Call, Wish};
 use runs::calls::entry::{Solver, Task};
 use runs::calls::extended::Theirs;
@@ -155,7 +155,5 @@ fn falling(random: &mut Random, call: &Call) -> Wish {
     let ends = [source / 2, target];
     let [source, target] = if random.below(2) == 0 { ends } else { [ends[1], ends[0]] };
     let many = (0..random.below(6)).map(|_| node(random)).collect();
-    let wish = wish(alpha, threshold, pushes);
-    let [settings, backward_settings] = [0; 2].map(|_| wishes::with_drawn_rule(random, wish.settings));
-    Wish { source, target, many, settings, backward_settings, ..wish }
+    Wish { source, target, many, ..wish(alpha, threshold, pushes) }
 }

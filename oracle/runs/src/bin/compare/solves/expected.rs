@@ -1,6 +1,5 @@
 //! What a solve is to come to: a refusal, or what the extended Rust gives. That is held to the statement for the stop, and to what
-//! the repaired Rust gives where that can be asked, since the call has the adaptive numbers that are in its code, and its division
-//! rule or one that comes to the same.
+//! the repaired Rust gives where that can be asked, since the call has the adaptive numbers that are in its code.
 use super::stop::Statement;
 use crate::calls::buffer::turned;
 use extended::adaptions;
@@ -11,9 +10,8 @@ use runs::calls::extended::Theirs as Extended;
 use runs::calls::given;
 use runs::calls::outcome::{Outcome, Returned};
 use runs::calls::refusal::refusal;
-use runs::calls::repaired::{takes_backward, takes_forward, Theirs as Repaired};
+use runs::calls::repaired::{takes, Theirs as Repaired};
 use runs::comparison::same;
-use runs::entries::Settings;
 use std::cell::Cell;
 
 /// A graph of more nodes and links than this is large: a solve of it takes the Rust so long that solving each with both copies would
@@ -24,9 +22,8 @@ const LARGE: usize = 20_000;
 const ONE_IN: usize = 4;
 
 thread_local! {
-    /// How many answers both copies gave alike, of how many of these the threshold could adapt, and how many were by the division
-    /// rule that the repaired Rust has not.
-    static ALIKE: Cell<[u64; 3]> = const { Cell::new([0; 3]) };
+    /// How many answers both copies gave alike, and of how many of these the threshold could adapt.
+    static ALIKE: Cell<[u64; 2]> = const { Cell::new([0; 2]) };
 }
 
 /// Begins to count anew.
@@ -34,13 +31,9 @@ pub fn forget() {
     ALIKE.take();
 }
 
-pub fn alike() -> [(&'static str, u64); 3] {
-    let [all, adapted, divided] = ALIKE.get();
-    [
-        ("answers", all),
-        ("of these past a step of an adaptive threshold", adapted),
-        ("of these by the other division rule, where it comes to the same", divided),
-    ]
+pub fn alike() -> [(&'static str, u64); 2] {
+    let [all, adapted] = ALIKE.get();
+    [("answers", all), ("of these past a step of an adaptive threshold", adapted)]
 }
 
 /// The Rust's solver of a graph, and what its solves are held to.
@@ -68,9 +61,8 @@ impl Expected {
             if let Some(told) = unlike(question, &numbers(&outcome), &repaired.numbers(wish, question.task)) {
                 return Err(told);
             }
-            let divided = last_record(question.solver, wish).divide_by_out_degree;
-            let [all, of_adapted, of_divided] = ALIKE.get();
-            ALIKE.set([all + 1, of_adapted + u64::from(adapted), of_divided + u64::from(divided)]);
+            let [all, of_these] = ALIKE.get();
+            ALIKE.set([all + 1, of_these + u64::from(adapted)]);
         }
         self.statement.broken(question, &wish.settings, &outcome).map_or(Ok(outcome), Err)
     }
@@ -94,24 +86,8 @@ impl Expected {
 fn asks_both(solver: Solver, graph: &PushGraph, wish: &Wish) -> bool {
     let size = graph.num_nodes() + graph.adjacency.nnz();
     let drawn = size + wish.source as usize + wish.target as usize;
-    let last = last_record(solver, wish);
-    let any_rule = solver == Solver::Forward || takes_backward(last) || divides_alike(graph);
-    takes_forward(&wish.settings) && takes_forward(last) && any_rule && (size <= LARGE || drawn % ONE_IN == 0)
-}
-
-/// The settings record of a call, and of two the backward one.
-pub fn last_record(solver: Solver, wish: &Wish) -> &Settings {
-    if solver == Solver::Bidirectional {
-        &wish.backward_settings
-    } else {
-        &wish.settings
-    }
-}
-
-/// Whether both division rules divide by the same: no out-degree is below 1 but those of nodes that no link leaves.
-fn divides_alike(graph: &PushGraph) -> bool {
-    let rows = graph.adjacency.row_ptr.windows(2);
-    rows.zip(&graph.degrees).all(|(row, &degree)| row[0] == row[1] || degree >= 1.0)
+    let second = solver != Solver::Bidirectional || takes(&wish.backward_settings);
+    takes(&wish.settings) && second && (size <= LARGE || drawn % ONE_IN == 0)
 }
 
 /// All numbers that the Rust's own call has returned, one after the other, as `Theirs::numbers` has them.

@@ -87,11 +87,7 @@ impl Numbers {
         // Steps of 1,001 come to each place, since no prime number divides both.
         let places = (0..all.len()).cycle().step_by(1_001).take(count as usize);
         let both = places.flat_map(|place| [(place, false), (place, true)]);
-        let both = both.map(|(place, to_the_last)| {
-            let settings = pair(random, &all, place).map(|settings| wishes::with_drawn_rule(random, settings));
-            self.queue(settings, to_the_last)
-        });
-        both.collect()
+        both.map(|(place, to_the_last)| self.queue(pair(random, &all, place), to_the_last)).collect()
     }
 
     fn queue(self, [settings, backward_settings]: [Settings; 2], to_the_last: bool) -> Call {
@@ -112,8 +108,8 @@ impl Numbers {
     pub fn drawn(self, random: &mut Random, nodes: u32, links: usize, count: u64) -> (Vec<Call>, u64) {
         let found: Vec<Call> = (0..count).map(|number| self.random(random, nodes, links, number % 3 == 0)).collect();
         let unlike = found.iter().filter(|call| {
-            let Settings { alpha, epsilon, queue_threshold, max_pushes, divide_by_out_degree, .. } = call.wish.settings;
-            let usual = Settings { alpha, epsilon, queue_threshold, max_pushes, divide_by_out_degree, ..Settings::DEFAULT };
+            let Settings { alpha, epsilon, queue_threshold, max_pushes, .. } = call.wish.settings;
+            let usual = Settings { alpha, epsilon, queue_threshold, max_pushes, ..Settings::DEFAULT };
             self.residual(call, call.wish.settings) != self.residual(call, usual)
         });
         let unlike = unlike.count() as u64;
@@ -177,7 +173,7 @@ fn adapting(random: &mut Random) -> Settings {
         epsilon: random.one_of(&[0.0, 0.0, 1e-6, 1e-3 * unit]),
         queue_threshold: random.one_of(&[0.0, 1e-8, 1e-3 * unit, 0.01, 0.01, 0.1 * unit]),
         max_pushes: random.one_of(&[10, 47, 300, 300, 3_000]),
-        ..wishes::with_drawn_rule(random, Settings::DEFAULT)
+        ..Settings::DEFAULT
     }
 }
 

@@ -26,7 +26,6 @@ pub fn stopping(random: &mut Random, solver: Solver, count: u64) -> (Vec<Call>, 
 
 fn watching(random: &mut Random, solver: Solver) -> (Call, Stop) {
     let settings = Settings { alpha: 0.05 + 0.3 * random.unit(), max_pushes: 400, ..Settings::DEFAULT };
-    let settings = wishes::with_drawn_rule(random, settings);
     let mut call = lists::random(random, 30, 120, false).solving(Question { solver, task: Task::Watched });
     call.wish = wishes::with_settings(random, &call, [settings; 2]);
     let graph = given::graph(&call);
