@@ -1,5 +1,7 @@
 // A set of nodes as bits of words that the caller lends: a node's mark is bit node mod 64 of word
 // node div 64.
+#![tactic(auto)]
+
 ghost use Rattle.std.specs.Prelude.{true, false, ◌≡◌, ◌*◌, ◌/◌, ◌<◌, ◌≤◌, length, replicate};
 ghost use Rattle.marks.specs.Marks.{marked, WithMark, all_ones, how_many};
 

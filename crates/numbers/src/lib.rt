@@ -1,5 +1,7 @@
 // What the crates above share: notation and laws of numbers and lists, floats by their bits and the bits of floats,
 // and lists that are cleared.
+#![tactic(auto)]
+
 ghost use Rattle.std.specs.Prelude.{◌≡◌, ◌++◌, ◌-◌, ◌≤◌, length, take, replicate};
 ghost use Rattle.std.specs.Float.{binary64};
 ghost use Rattle.std.specs.Float.Ieee.{to_bits};

@@ -1,13 +1,13 @@
 -- The laws of refusal numbers and of a call's outcome: what a proof of an entry cites. Assumes nothing.
 use Prim.Native.Nat.{ℕ, zero, suc, ◌<◌, ◌≤◌}
-use mathlib.Core.Bool.{Bool, true, false}
+use mathlib.Core.Bool.{Bool, true, false, not, ◌||◌}
 use mathlib.Core.List.{List, [], ◌∷◌}
 use mathlib.Core.Path.{◌≡◌, refl, sym, ap, ◌∙◌}
 use native.Mathlib.Omega.{arith}
 use native.Mathlib.Nat.{not-suc-le-zero, le_of_suc-le-suc}
 use lib.ListN.{length, get_or}
 use lib.Ieee.{Float}
-use lib.Dec.{leb, ltb}
+use lib.Dec.{eqb, leb, ltb}
 use borrow.Author.Tests.{eqb-true, eqb-false, ltb-false, leb-false, not-false}
 use Rattle.numbers.proofs.NoneOf.{none_at}
 use Rattle.numbers.proofs.Tests.{neither}
@@ -54,7 +54,7 @@ AsStated (p ∷ ps) = (p.0 ≡ p.1) × AsStated ps
 differ_false : (b : Bool) (ps : List (ℕ × ℕ)) → lengths_differ b ps ≡ false → b ≡ false
 unfolding lengths_differ
 differ_false b [] h = h
-differ_false b (p ∷ ps) h = (neither b _ (differ_false _ ps h)).0
+differ_false b (p ∷ ps) h = (neither b _ (differ_false (b || not (eqb p.0 p.1)) ps h)).0
 
 -- all lengths are as stated
 pub as_stated : (b : Bool) (ps : List (ℕ × ℕ)) → lengths_differ b ps ≡ false → AsStated ps

@@ -3,12 +3,10 @@ use Prim.Native.Nat.{ℕ, ◌%◌, ◌≤◌, ◌<◌}
 use mathlib.Core.Bool.{true, false, not, false≢true}
 use mathlib.Core.Path.{◌≡◌, refl, sym, ◌∙◌}
 use borrow.Author.Tests.{le-ltb, lt-ltb}
-use borrow.Author.Rules.{rules}
 use lib.Dec.{T}
 use lib.Ieee.{Float, nan, inf, fin, binary64, of_bits, nan_bits, is_nan, div}
 use lib.Ieee.Bits.{nan_bits_is, nan_bits_above}
-use Rattle.numbers.proofs.float_of.Statement.{statement}
-use Rattle.numbers.proofs.float_of.Tie as tie
+use Rattle.numbers.proofs.float_of.Goals as goal
 
 no_nan : (b : ℕ) → b % 0x8000_0000_0000_0000 ≤ 0x7ff0_0000_0000_0000 → T (not (nan_bits binary64 b))
 no_nan b h = rw (nan_bits_above binary64 b, le-ltb 0x7ff0_0000_0000_0000 (b % 0x8000_0000_0000_0000) h) tt
@@ -26,14 +24,8 @@ zero-over-zero : div binary64 (of_bits binary64 0) (of_bits binary64 0) ≡ nan
 unfolding div of_bits
 zero-over-zero = refl
 
-float-from-bits-result : tie.Need-float-from-bits-result
-float-from-bits-result c = no_nan c.before.args.bits c.if1.true
+pub float_from_bits-result : goal.float_from_bits-result
+float_from_bits-result c = no_nan c.args.bits c.if-bits-le9218868437227405312.true
 
-returns : tie.Need-returns
-returns c = search rules
-
-returns-2 : tie.Need-returns-2
-returns-2 c = zero-over-zero ∙ sym (a-nan c.before.args.bits c.if1.false)
-
-pub float-of-spec : {M : Type 1} → statement M
-float-of-spec = tie.close (tie.spec float-from-bits-result returns returns-2)
+pub returns : goal.returns
+returns c = zero-over-zero ∙ sym (a-nan c.args.bits c.if-bits-le9218868437227405312.false)
