@@ -58,3 +58,4 @@ unfolding row_of
 kept_row n (k ∷ links) l (Memᴰ.head e) h =
     Memᴰ.append_left (row_of n l.from links) (subst (λ (j : Link). Memᴰ (entry l.to l.weight) (gives n l.from j)) e (rw (gives_own n l h) (Memᴰ.head refl)))
 kept_row n (k ∷ links) l (Memᴰ.tail m) h = Memᴰ.append_right (gives n l.from k) (kept_row n links l m h)
+kept_row n [] l x'' h = elim x'' [ ]

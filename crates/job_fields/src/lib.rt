@@ -1,4 +1,6 @@
 // The fields of a job's bytes.
+#![tactic(auto)]
+
 ghost use Rattle.std.specs.Prelude.{◌≡◌, ◌+◌, ◌*◌, ◌≤◌, ◌<◌, length, eqb};
 ghost use Rattle.job_fields.specs.Fields.{word_at, float_at, words_at, floats_at};
 ghost use Rattle.job_fields.specs.Shape.{links_in, sources_in, offsets, limits, shaped};

@@ -1,4 +1,6 @@
 // The text that a job prints, put piece by piece into a lent buffer. Each function asks that the buffer has room.
+#![tactic(auto)]
+
 ghost use Rattle.std.specs.Prelude.{◌≡◌, ◌+◌, ◌*◌, ◌≤◌, ◌<◌, ◌++◌, length};
 ghost use Rattle.io.specs.Digits.{hex_digit_ascii, last_digits};
 ghost use Rattle.job_text.specs.Text.{decimal, bits, space, refused_line, done_line, node_line, node_lines, Grown};

@@ -1,5 +1,7 @@
 // The correctly rounded square root of an f64, in integer arithmetic on its bit pattern, and the
 // Euclidean norm of a slice by it.
+#![tactic(auto)]
+
 ghost use Rattle.std.specs.Prelude.{◌≡◌, ◌+◌, ◌*◌, ◌^◌, ◌≤◌, ◌<◌};
 ghost use Rattle.std.specs.Float.{nan, binary64};
 ghost use Rattle.std.specs.Float.Ieee.{of_bits};

@@ -60,7 +60,7 @@ differ_false b (p ∷ ps) h = (neither b _ (differ_false (b || not (eqb p.0 p.1)
 pub as_stated : (b : Bool) (ps : List (ℕ × ℕ)) → lengths_differ b ps ≡ false → AsStated ps
 unfolding lengths_differ
 as_stated b [] h = tt
-as_stated b (p ∷ ps) h = (eqb-true _ _ (not-false _ (neither b _ (differ_false _ ps h)).1), as_stated _ ps h)
+as_stated b (p ∷ ps) h = (eqb-true _ _ (not-false _ (neither b _ (differ_false _ ps h)).1), as_stated (b || not (eqb p.0 p.1)) ps h)
 
 -- ---- what a call has that is not refused
 

@@ -1,0 +1,16 @@
+-- `job_text::append_decimal` meets its contract: what `io::decimal` gives is put behind the text. Assumes nothing.
+use native.Mathlib.Omega.{arith}
+use Rattle.job_text.specs.Text.{decimal}
+use Rattle.job_text.proofs.Numerals.{fewest_few, fewest_digits}
+use Rattle.job_text.proofs.append_decimal.Goals as goal
+
+pub append-requires : goal.append-requires
+append-requires c = let d = c.decimal-k in let q = c.requires in
+    let few = fewest_few 10 1 20 _ _ (omega arith) (omega arith) (omega (arith, c.ranges.n)) d.ensures.1.0 in
+    omega (arith, few, d.ensures.0.1, q)
+
+pub returns : goal.returns
+unfolding decimal
+returns c = let d = c.decimal-k in let n = c.args.n in
+    let few = fewest_few 10 1 20 n d.result (omega arith) (omega arith) (omega (arith, c.ranges.n)) d.ensures.1.0 in
+    rw (d.ensures.1.1, fewest_digits 19 d.result n few d.ensures.1.0) at c.append.ensures
