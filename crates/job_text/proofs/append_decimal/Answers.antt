@@ -6,11 +6,11 @@ use Rattle.job_text.proofs.append_decimal.Goals as goal
 
 pub append-requires : goal.append-requires
 append-requires c = let d = c.decimal-k in let q = c.requires in
-    let few = fewest_few 10 1 20 _ _ (omega arith) (omega arith) (omega (arith, c.ranges.n)) d.ensures.1.0 in
-    omega (arith, few, d.ensures.0.1, q)
+    let few = fewest_few 10 1 20 _ _ (omega arith) (omega arith) (omega (arith, c.ranges.n)) d.ensures.len in
+    omega (arith, few, d.ensures.in_bounds.1, q)
 
 pub returns : goal.returns
 unfolding decimal
 returns c = let d = c.decimal-k in let n = c.args.n in
-    let few = fewest_few 10 1 20 n d.result (omega arith) (omega arith) (omega (arith, c.ranges.n)) d.ensures.1.0 in
-    rw (d.ensures.1.1, fewest_digits 19 d.result n few d.ensures.1.0) at c.append.ensures
+    let few = fewest_few 10 1 20 n d.result (omega arith) (omega arith) (omega (arith, c.ranges.n)) d.ensures.len in
+    rw (d.ensures.digits, fewest_digits 19 d.result n few d.ensures.len) at c.append.ensures
