@@ -16,7 +16,7 @@ use watching::Watch;
 
 // What a solve answers before its norm is taken: how many pushes it made, and how many nodes it pushed. Number 0 is
 // done.
-#[derive(Drop)]
+#[derive(Clone, Copy)]
 pub struct Counted {
     pub refusal: u32,
     pub push_count: u64,
@@ -25,7 +25,7 @@ pub struct Counted {
 
 // What a solve answers. Number 0 is done.
 #[repr(C)]
-#[derive(Drop)]
+#[derive(Clone, Copy)]
 pub struct Solved {
     pub refusal: u32,
     pub push_count: u64,
@@ -35,7 +35,7 @@ pub struct Solved {
 
 // What a query answers. Number 0 is done.
 #[repr(C)]
-#[derive(Drop)]
+#[derive(Clone, Copy)]
 pub struct Scored {
     pub refusal: u32,
     pub score: f64,

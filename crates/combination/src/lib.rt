@@ -8,7 +8,7 @@ ghost use Rattle.combination.specs.Outcomes.{combining};
 use calls::Scored;
 
 // Which solves are used.
-#[derive(Drop)]
+#[derive(Clone, Copy)]
 pub struct Uses {
     pub forward: bool,
     pub backward: bool,

@@ -9,7 +9,7 @@ use crate::search::Edge;
 
 // What `has_edge` answers.
 #[repr(C)]
-#[derive(Drop)]
+#[derive(Clone, Copy)]
 pub struct Found {
     pub refusal: u32,
     pub found: bool,
@@ -17,7 +17,7 @@ pub struct Found {
 
 // What `edge_weight` answers. The weight is +0 if there is no link.
 #[repr(C)]
-#[derive(Drop)]
+#[derive(Clone, Copy)]
 pub struct Weighed {
     pub refusal: u32,
     pub found: bool,

@@ -7,7 +7,7 @@ ghost use Rattle.edges.specs.Edges.{first_to, edge_in};
 ghost use Rattle.edges.specs.Passed.{Passed};
 
 // What a search finds: no link, or one with its weight.
-#[derive(Drop)]
+#[derive(Clone, Copy)]
 pub enum Edge {
     Absent,
     Present { weight: f64 },

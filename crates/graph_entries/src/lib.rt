@@ -6,7 +6,7 @@ ghost use Rattle.graph_entries.specs.Outcomes.{rows_lent, graph_lent, from_edges
 
 // What `from_edges` answers.
 #[repr(C)]
-#[derive(Drop)]
+#[derive(Clone, Copy)]
 pub struct Built {
     pub refusal: u32,
     pub kept: u32,

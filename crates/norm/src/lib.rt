@@ -10,14 +10,14 @@ ghost use Rattle.norm.specs.Norm.{Norm};
 ghost use Rattle.norm.specs.Steps.{WholeRoot, FloorRoot, NearRoot, Normal, Even, Patterned};
 
 // A number as a significand and the exponent of a power of two, or of four.
-#[derive(Drop)]
+#[derive(Clone, Copy)]
 struct Scaled {
     significand: u64,
     exponent: u64,
 }
 
 // The whole part of a root, and what its square leaves of the number.
-#[derive(Drop)]
+#[derive(Clone, Copy)]
 struct Part {
     root: u64,
     rest: u64,

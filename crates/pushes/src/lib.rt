@@ -13,7 +13,7 @@ ghost use Rattle.pushes.specs.Promises.{Moved, Pushed, Absorbed};
 use queue::WorkQueue;
 
 // What a run carries beside the buffers.
-#[derive(Drop)]
+#[derive(Clone, Copy)]
 pub struct Progress {
     pub queue: WorkQueue,
     pub pushes: u64,

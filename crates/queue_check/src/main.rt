@@ -23,7 +23,7 @@ const POP_NOBODY: u64 = 4;
 const ADAPT: u64 = 5;
 
 // A record of the recording.
-#[derive(Drop)]
+#[derive(Clone, Copy)]
 struct Operation {
     what: u64,
     node: u32,
@@ -32,14 +32,14 @@ struct Operation {
 }
 
 // The queue after an operation, and whether it did what is recorded.
-#[derive(Drop)]
+#[derive(Clone, Copy)]
 struct Done {
     queue: WorkQueue,
     agrees: bool,
 }
 
 // The queue after some operations, with their number and the number of those that differ.
-#[derive(Drop)]
+#[derive(Clone, Copy)]
 struct Tally {
     queue: WorkQueue,
     sequences: u64,

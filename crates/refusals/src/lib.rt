@@ -11,7 +11,7 @@ ghost use Rattle.refusals.specs.Refusals.{◌or◌, ◌when◌, refuse_nodes, re
 // threshold adapts, above and below which sizes of the queue, by which factors, and the floor above
 // which it falls.
 #[repr(C)]
-#[derive(Drop)]
+#[derive(Clone, Copy)]
 pub struct Settings {
     pub alpha: f64,
     pub epsilon: f64,

@@ -4,7 +4,7 @@ ghost use Rattle.rules.specs.Rules.{watched, watchable};
 ghost use Rattle.watching.specs.Watching.{watch_in, Stops};
 
 // The node that a solve watches, if any, and to which precision.
-#[derive(Drop)]
+#[derive(Clone, Copy)]
 pub enum Watch {
     Nobody,
     Node { node: u32, precision: f64 },

@@ -2,7 +2,6 @@
 use Prim.Native.Nat.{ℕ, ◌≤◌, ◌<◌}
 use mathlib.Core.Bool.{true, false, ◌&&◌}
 use mathlib.Core.Path.{◌≡◌, refl}
-use mathlib.Core.Logic.{⊎_elim}
 use borrow.Author.Tests.{lt-ltb, le-ltb}
 use lib.Dec.{ltb}
 use lib.Ieee.{Float, lt}
@@ -10,8 +9,8 @@ use Rattle.numbers.specs.Numbers.{◌⊗◌}
 use Rattle.numbers.specs.Choice.{if◌then◌else◌}
 use Rattle.refusals.specs.declared.Settings.{Settings}
 use Rattle.queue.specs.Waiting.{adapted}
-use Rattle.queue.proofs.adaptive_threshold.Statement.{statement}
-use Rattle.queue.proofs.adaptive_threshold.Tie as tie
+use Rattle.queue.proofs.adaptive_threshold.Goals as goal
+use Rattle.queue.proofs.adaptive_threshold.Goals.{else-size-settings-2-via-then-size-settings-2+else-threshold-settings, else-size-settings-2-via-else-size-settings-2}
 
 -- the definition's three cases
 module _ (settings : Settings) (size : ℕ) (threshold : Float) where
@@ -27,16 +26,12 @@ module _ (settings : Settings) (size : ℕ) (threshold : Float) where
   unfolding adapted if◌then◌else◌
   left not-long neither = rw (le-ltb _ _ not-long, neither)
 
-returns : tie.Need-returns
-returns c = (raised _ _ _ c.before.if1.true, refl)
+pub returns-then-size-settings : goal.returns-then-size-settings
+returns-then-size-settings c = (raised _ _ _ c.if-size-settings.true, refl)
 
-returns-2 : tie.Need-returns-2
-returns-2 c = (lowered _ _ _ c.before.before.before.before.before.if1.false c.before.before.before.if2.true c.before.if3.true, refl)
+pub returns-then-threshold-settings : goal.returns-then-threshold-settings
+returns-then-threshold-settings c = (lowered _ _ _ c.if-size-settings.false c.if-size-settings-2.true c.if-threshold-settings.true, refl)
 
-returns-3 : tie.Need-returns-3
-returns-3 c =
-    let rest = left c.before.before.before.before.args.settings c.before.before.before.before.args.q.size c.before.before.before.before.args.q.threshold c.before.before.if1.false in
-    ⊎_elim (λ w. (rest (rw (lt-ltb _ _ w.0.taken) w.2.left), refl)) (λ w. (rest (rw (le-ltb _ _ w.left)), refl)) c.if2.branch
-
-pub adaptive-threshold-spec : {M : Type 1} → statement M
-adaptive-threshold-spec = tie.close (tie.spec returns returns-2 returns-3)
+pub returns : goal.returns
+returns c = let rest = left c.args.settings c.args.q.size c.args.q.threshold c.if-size-settings.false in
+    elim c.else-size-settings-2.branch [ else-size-settings-2-via-then-size-settings-2+else-threshold-settings w ↦ (rest (rw (lt-ltb _ _ w.if-size-settings-2.true) w.if-threshold-settings.false), refl) | else-size-settings-2-via-else-size-settings-2 w ↦ (rest (rw (le-ltb _ _ w.if-size-settings-2.false)), refl) ]

@@ -6,14 +6,12 @@ use native.Mathlib.Nat.{not-suc-le-zero}
 use native.Mathlib.Omega.{arith}
 use lib.ListN.{length, get_or, replicate, length-replicate, get_or-replicate}
 use lib.Ieee.{Float}
-use borrow.Author.Rules.{rules}
 use Rattle.marks.proofs.Marking.{none_marked}
 use Rattle.queue.specs.Waiting.{Slot, out}
 use Rattle.queue.specs.Heap.{filled, waiting, is_waiting}
 use Rattle.queue.specs.Promises.{Holds}
 use Rattle.queue.proofs.Taken.{taken_none}
-use Rattle.queue.proofs.start.Statement.{statement}
-use Rattle.queue.proofs.start.Tie as tie
+use Rattle.queue.proofs.start.Goals as goal
 
 -- no entry fills no slot
 nobody_waits : (ps : List Float) (ns : List ℕ) → waiting 0 ps ns ≡ replicate (length ps) out
@@ -41,17 +39,6 @@ empty ps ns ws few paired room =
       view = nobody_waits ps ns;
     }
 
-clear-requires : tie.Need-clear-requires
-clear-requires c κs = search rules
-
-same_length : tie.Need-same-length
-same_length c = search rules
-
-returns : tie.Need-returns
-returns c =
-    let s = c.before.before.before.before.before.before.before in
-    let a = s.args in
-    (refl, rw c.before.before.clear.ensures (empty a.priorities.now a.nodes.now a.marks.now s.requires.0.0 s.requires.0.1 s.requires.1))
-
-pub start_spec : {M : Type 1} → statement M
-start_spec = tie.close (tie.spec clear-requires same_length returns)
+pub returns : goal.returns
+returns c = let a = c.args in
+    record { threshold_value = refl; holds = rw c.clear.ensures (empty a.priorities.now a.nodes.now a.marks.now c.requires.priorities_len_bound.0 c.requires.priorities_len_bound.1 c.requires.priorities_len_bound_2) }
