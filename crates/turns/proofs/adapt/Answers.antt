@@ -9,9 +9,7 @@ use Rattle.refusals.specs.declared.Settings.{Settings}
 use Rattle.refusals.proofs.Laws.{step_above_zero}
 use Rattle.queue.specs.Waiting.{adapted}
 use Rattle.rules.specs.Rules.{threshold_after}
-use borrow.Author.Rules.{rules}
-use Rattle.turns.proofs.adapt.Statement.{statement}
-use Rattle.turns.proofs.adapt.Tie as tie
+use Rattle.turns.proofs.adapt.Goals as goal
 
 -- the definition's two cases
 module _ (settings : Settings) (pushes size : ℕ) (threshold : Float) where
@@ -23,21 +21,13 @@ module _ (settings : Settings) (pushes size : ℕ) (threshold : Float) where
   unfolding threshold_after if◌then◌else◌
   stays e = rw e
 
-rem-if1 : tie.Need-nonzero-rem-if1
-rem-if1 c = step_above_zero _ c.before.requires
+pub nonzero_rem-pushes : goal.nonzero_rem-pushes
+nonzero_rem-pushes c = step_above_zero _ c.requires
 
-adapt-requires : tie.Need-adapt-requires
-adapt-requires c κs = search rules
+pub returns-then-settings-pushes : goal.returns-then-settings-pushes
+returns-then-settings-pushes c = let a = c.args in
+    record { threshold_is = c.adapt.ensures.0 ∙ adapts a.settings a.pushes a.q.size a.q.threshold c.if-settings-pushes.true; same_size = c.adapt.ensures.1 }
 
-returns : tie.Need-returns
-returns c =
-    let a = c.before.before.before.before.args in
-    record { threshold_is = c.adapt.ensures.0 ∙ adapts a.settings a.pushes a.q.size a.q.threshold c.before.if1.true; same_size = c.adapt.ensures.1 }
-
-returns-2 : tie.Need-returns-2
-returns-2 c =
-    let a = c.before.before.before.args in
-    record { threshold_is = stays a.settings a.pushes a.q.size a.q.threshold c.if1.false; same_size = refl }
-
-pub adapt-spec : {M : Type 1} → statement M
-adapt-spec = tie.close (tie.spec rem-if1 adapt-requires returns returns-2)
+pub returns-else-settings-pushes : goal.returns-else-settings-pushes
+returns-else-settings-pushes c = let a = c.args in
+    record { threshold_is = stays a.settings a.pushes a.q.size a.q.threshold c.if-settings-pushes.false; same_size = refl }
