@@ -7,8 +7,12 @@ mod recording;
 ghost use Rattle.std.specs.Prelude.{◌≡◌, ◌+◌, ◌<◌, ◌≤◌, length};
 ghost use Rattle.queue_check.specs.QueueReady.{QueueReady};
 
-use libc::{STDIN_FILENO, STDOUT_FILENO};
 use queue::WorkQueue;
+
+// The descriptors of standard input and of standard output.
+const STDIN_FILENO: i32 = 0;
+
+const STDOUT_FILENO: i32 = 1;
 
 const START: u64 = 0;
 
