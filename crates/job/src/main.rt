@@ -1,6 +1,5 @@
 // Reads one job from standard input, and prints its text.
-
-// The descriptors of standard input and of standard output.
+// The standard streams.
 const STDIN_FILENO: i32 = 0;
 
 const STDOUT_FILENO: i32 = 1;

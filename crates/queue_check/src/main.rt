@@ -2,6 +2,8 @@
 // node and every size. The recording is a list of records of 16 bytes, little-endian: what is done
 // (u16), a node (u16), the size afterwards (u32) and a number (f64); oracle/runs/src/bin/record makes
 // it.
+#![tactic(auto)]
+
 mod recording;
 
 ghost use Rattle.std.specs.Prelude.{◌≡◌, ◌+◌, ◌<◌, ◌≤◌, length};
@@ -9,7 +11,7 @@ ghost use Rattle.queue_check.specs.QueueReady.{QueueReady};
 
 use queue::WorkQueue;
 
-// The descriptors of standard input and of standard output.
+// The standard streams.
 const STDIN_FILENO: i32 = 0;
 
 const STDOUT_FILENO: i32 = 1;
