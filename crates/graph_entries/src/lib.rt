@@ -1,5 +1,7 @@
 // The graph store's public calls. Each tests its own input, refuses it with the first number that
 // applies and leaves every buffer as it was, or does its work in linear time in the buffers lent.
+#![tactic(auto)]
+
 ghost use Rattle.std.specs.Prelude.{◌≡◌};
 ghost use Rattle.refusals.specs.Calls.{outcome_of};
 ghost use Rattle.graph_entries.specs.Outcomes.{rows_lent, graph_lent, from_edges, from_matrix, transposing, row_sums};

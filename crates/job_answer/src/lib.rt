@@ -1,4 +1,6 @@
 // A job, from its bytes to the text that it prints. The buffers of its solve are lent in layers.
+#![tactic(auto)]
+
 ghost use Rattle.std.specs.Prelude.{true, ◌≡◌, ◌≤◌, length};
 ghost use Rattle.calls.specs.Lent.{solve_lent};
 ghost use Rattle.io.specs.Counts.{IsPrefixLen};

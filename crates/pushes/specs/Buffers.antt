@@ -2,9 +2,10 @@
 -- What holds of the buffers of a solve among n nodes. Assumes nothing.
 use Rattle.std.specs.Prelude.{ℕ, ◌*◌, ◌≤◌, ◌<◌, Bool, List, ◌≡◌, length, get_or, Float}
 use Rattle.std.specs.Borrow.{Bor}
+use denote.Triple.Both.{Both}
 use Rattle.graph.specs.Store.{chosen, degrees_in, Rowed}
 use Rattle.queue.specs.Heap.{Heap}
-use Rattle.pushes.specs.States.{Holding, Slice, Pending, pending_of}
+use Rattle.pushes.specs.States.{Holding, Pending, pending_of}
 
 -- the residual and the queue have a place for each node
 pub record Lent (n : ℕ) (w : Pending) : Type 0 where
@@ -38,11 +39,15 @@ pub record Lists : Type 0 where
 abbrev pub lists_of : List ℕ → List ℕ → List ℕ → List Float → List Float → List Float → List Float → Lists
 lists_of s c c' w w' d o = record { starts = s; columns = c; reverse_columns = c'; weights = w; reverse_weights = w'; degrees = d; out_degrees = o }
 
+-- a slice that a call reads, as its `ensures` names it
+abbrev pub Shared : Type 0 → Type 0
+Shared A = Both (Bor (List A)) (Bor (List A))
+
 -- what the slices of a call hold: in its `requires`, and in its `ensures`
 abbrev pub lists_in : Bor (List ℕ) → Bor (List ℕ) → Bor (List ℕ) → Bor (List Float) → Bor (List Float) → Bor (List Float) → Bor (List Float) → Lists
 lists_in s c c' w w' d o = lists_of s.now c.now c'.now w.now w'.now d.now o.now
 
-abbrev pub lists : Slice ℕ → Slice ℕ → Slice ℕ → Slice Float → Slice Float → Slice Float → Slice Float → Lists
+abbrev pub lists : Shared ℕ → Shared ℕ → Shared ℕ → Shared Float → Shared Float → Shared Float → Shared Float → Lists
 lists s c c' w w' d o = lists_in s.entry c.entry c'.entry w.entry w'.entry d.entry o.entry
 
 -- the lists of the direction

@@ -1,7 +1,7 @@
 -- Inner: no public promise cites it.
 -- What the buffers of a solve stand for: the state of the rules. Assumes nothing.
 use Rattle.std.specs.Prelude.{ℕ, ◌≤◌, Bool, false, List, ◌≡◌, Float}
-use Rattle.std.specs.Borrow.{Bor}
+use Rattle.std.specs.Borrow.{MutBor}
 use denote.Triple.Both.{Both}
 use Rattle.numbers.specs.Tables.{tabulate}
 use Rattle.marks.specs.Marks.{marked}
@@ -58,12 +58,12 @@ holding p e r ps ns qs vs = record { p = p; estimate = e; residual = r; prioriti
 unfoldable pub state_of : ℕ → Holding → State
 state_of n h = state_in n h.estimate h.residual h.p h.priorities h.nodes h.visited
 
--- a slice that a call is lent, as its `ensures` names it
+-- a slice that a call is lent to write, as its `ensures` names it
 abbrev pub Slice : Type 0 → Type 0
-Slice A = Both (Bor (List A)) (Bor (List A))
+Slice A = Both (MutBor (List A)) (MutBor (List A))
 
 -- what the slices of a call hold: in its `requires`, and in its `ensures` before it and after it
-abbrev pub holding_in : Progress → Bor (List Float) → Bor (List Float) → Bor (List Float) → Bor (List ℕ) → Bor (List ℕ) → Bor (List ℕ) → Holding
+abbrev pub holding_in : Progress → MutBor (List Float) → MutBor (List Float) → MutBor (List Float) → MutBor (List ℕ) → MutBor (List ℕ) → MutBor (List ℕ) → Holding
 holding_in p e r ps ns qs vs = holding p e.now r.now ps.now ns.now qs.now vs.now
 
 abbrev pub holding_before : Progress → Slice Float → Slice Float → Slice Float → Slice ℕ → Slice ℕ → Slice ℕ → Holding
@@ -95,7 +95,7 @@ abbrev pub state_with : ℕ → List Float → ℕ → List ℕ → Pending → 
 state_with n estimate pushes visited w = state_in n estimate w.residual (progress w.queue pushes) w.priorities w.nodes visited
 
 -- what the slices of a call hold: in its `requires`, and in its `ensures` before it and after it
-abbrev pub pending_in : WorkQueue → Bor (List Float) → Bor (List Float) → Bor (List ℕ) → Bor (List ℕ) → Pending
+abbrev pub pending_in : WorkQueue → MutBor (List Float) → MutBor (List Float) → MutBor (List ℕ) → MutBor (List ℕ) → Pending
 pending_in q r ps ns qs = pending q r.now ps.now ns.now qs.now
 
 abbrev pub pending_before : WorkQueue → Slice Float → Slice Float → Slice ℕ → Slice ℕ → Pending

@@ -1,11 +1,13 @@
 // A push of a node, for both directions, over lent buffers, and what it is made of. A promise says that the state that the
 // buffers stand for is moved as the rules say; `backward` is the direction.
+#![tactic(auto)]
+
 ghost use Rattle.std.specs.Prelude.{◌≡◌, ◌<◌, length};
 ghost use Rattle.graph.specs.Rows.{entries_of};
 ghost use Rattle.rules.specs.Ways.{share_of};
 ghost use Rattle.rules.specs.Ways as Ways;
 ghost use Rattle.rules.specs.Rules.{each, gain, offer, pass, hand_out, push};
-ghost use Rattle.pushes.specs.States.{pending_in, pending_before, pending_after};
+ghost use Rattle.pushes.specs.States.{pending, pending_in, pending_before, pending_after};
 ghost use Rattle.pushes.specs.Buffers.{lists_in, lists, Seated, Row, Rows};
 ghost use Rattle.pushes.specs.Meant.{Weighs, Along, Stands};
 ghost use Rattle.pushes.specs.Promises.{Moved, Pushed, Absorbed};
@@ -47,9 +49,9 @@ pub fn offer_node(
     nodes: &mut [u32],
     queued: &mut [u64],
 ) -> WorkQueue
-    requires { Seated (length degrees.now) v (pending_in q residual priorities nodes queued) }
+    requires { Seated (length degrees.now) v (pending q residual.now priorities.old nodes.old queued.old) }
     ensures { Moved (Weighs degrees.now v) (λ way. offer way v) (length degrees.now)
-        (pending_before q residual priorities nodes queued) (pending_after result residual priorities nodes queued) }
+        (pending q residual.now priorities.old nodes.old queued.old) (pending result residual.now priorities.new nodes.new queued.new) }
 {
     if queue::waits(queued, v) {
         return q;

@@ -1,4 +1,6 @@
 // Shows the square roots of a few whole numbers, each by its bit pattern.
+#![tactic(auto)]
+
 fn show(n: u32) {
     io::write_all(1, b"square root of ");
     io::print_decimal(1, n as u64);

@@ -1,4 +1,6 @@
 // The node that a solve may watch: whether it is one of the nodes, and the early stop by it.
+#![tactic(auto)]
+
 ghost use Rattle.std.specs.Prelude.{◌≡◌, length};
 ghost use Rattle.rules.specs.Rules.{watched, watchable};
 ghost use Rattle.watching.specs.Watching.{watch_in, Stops};
