@@ -27,7 +27,7 @@ differ_beside a b (p ∷ ps) = ap (λ (x : Bool). lengths_differ x ps) (or_assoc
 differ_append : (b : Bool) (ps qs : List (ℕ × ℕ)) → lengths_differ (lengths_differ b ps) qs ≡ lengths_differ b (ps ++ qs)
 unfolding lengths_differ
 differ_append b [] qs = refl
-differ_append b (p ∷ ps) qs = differ_append _ ps qs
+differ_append b (p ∷ ps) qs = differ_append (b || not (eqb p.0 p.1)) ps qs
 
 -- the second tested by itself
 differ_more : (b : Bool) (ps : List (ℕ × ℕ)) → (b || lengths_differ false ps) ≡ lengths_differ b ps

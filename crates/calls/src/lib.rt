@@ -1,5 +1,7 @@
 // What the public calls of the solvers share: the tests of lengths, the answers, the extrapolated solution, and a solve
 // that counts its nodes and clears the queue's workspace.
+#![tactic(auto)]
+
 ghost use Rattle.std.specs.Prelude.{false, ◌≡◌, [], ◌∷◌, ◌+◌, length, get_or};
 ghost use Rattle.numbers.specs.Numbers.{+0};
 ghost use Rattle.refusals.specs.Refusals.{lengths_differ, Sound};

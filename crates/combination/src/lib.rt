@@ -1,4 +1,6 @@
 // A forward and a backward solve combined: a public call, and what the bidirectional calls share with it.
+#![tactic(auto)]
+
 pub mod methods;
 
 ghost use Rattle.std.specs.Prelude.{◌≡◌, length};

@@ -1,5 +1,7 @@
 // Whether one node links to another, and how strongly: two public calls over rows. Each tests the whole rows, refuses
 // them with the first number that applies, or searches one row up to the first match. Neither writes anything.
+#![tactic(auto)]
+
 pub mod search;
 
 ghost use Rattle.std.specs.Prelude.{◌≡◌};

@@ -1,5 +1,8 @@
 // Reads one job from standard input, and prints its text.
-use libc::{STDIN_FILENO, STDOUT_FILENO};
+// The standard streams.
+const STDIN_FILENO: i32 = 0;
+
+const STDOUT_FILENO: i32 = 1;
 
 // A byte more than the longest job has, so that a longer input is known without being read to its end.
 const LONG: usize = 16_505;

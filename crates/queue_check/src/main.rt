@@ -2,13 +2,19 @@
 // node and every size. The recording is a list of records of 16 bytes, little-endian: what is done
 // (u16), a node (u16), the size afterwards (u32) and a number (f64); oracle/runs/src/bin/record makes
 // it.
+#![tactic(auto)]
+
 mod recording;
 
 ghost use Rattle.std.specs.Prelude.{◌≡◌, ◌+◌, ◌<◌, ◌≤◌, length};
 ghost use Rattle.queue_check.specs.QueueReady.{QueueReady};
 
-use libc::{STDIN_FILENO, STDOUT_FILENO};
 use queue::WorkQueue;
+
+// The standard streams.
+const STDIN_FILENO: i32 = 0;
+
+const STDOUT_FILENO: i32 = 1;
 
 const START: u64 = 0;
 

@@ -1,5 +1,7 @@
 // The core of the push solver, which both directions share, over lent buffers: a start, and turns while there is one more. A
 // promise says that the state that the buffers stand for is moved as the rules say; `backward` is the direction.
+#![tactic(auto)]
+
 ghost use Rattle.std.specs.Prelude.{◌≡◌, ◌≤◌, length};
 ghost use Rattle.refusals.specs.Refusals.{Sound};
 ghost use Rattle.rules.specs.Rules as Rules;

@@ -1,10 +1,12 @@
 // The start of a solve, which both directions share, over lent buffers: nothing anywhere, and then each source gets its part and
 // is offered. A promise says that the state that the buffers stand for is the rules'.
+#![tactic(auto)]
+
 ghost use Rattle.std.specs.Prelude.{[], ◌∷◌, ◌≤◌, length};
 ghost use Rattle.rules.specs.Rules.{inside, each, gain, offer};
 ghost use Rattle.rules.specs.Rules as Rules;
 ghost use Rattle.watching.specs.Watching.{watch_in};
-ghost use Rattle.pushes.specs.States.{pending_in, pending_before, pending_after, holding_after};
+ghost use Rattle.pushes.specs.States.{pending, holding, holding_after};
 ghost use Rattle.pushes.specs.Buffers.{Lent, Room};
 ghost use Rattle.pushes.specs.Meant.{Every, Weighing};
 ghost use Rattle.pushes.specs.Promises.{Moved};
@@ -46,9 +48,9 @@ fn offer_one(
     nodes: &mut [u32],
     queued: &mut [u64],
 ) -> WorkQueue
-    requires { Lent (length degrees.now) (pending_in q residual priorities nodes queued) }
+    requires { Lent (length degrees.now) (pending q residual.now priorities.old nodes.old queued.old) }
     ensures { Moved (Weighing degrees.now) (λ way. each (offer way) (inside (length degrees.now) (v ∷ []))) (length degrees.now)
-        (pending_before q residual priorities nodes queued) (pending_after result residual priorities nodes queued) }
+        (pending q residual.now priorities.old nodes.old queued.old) (pending result residual.now priorities.new nodes.new queued.new) }
 {
     let at = v as usize;
     if at < degrees.len() {
@@ -67,9 +69,9 @@ fn offer_all(
     nodes: &mut [u32],
     queued: &mut [u64],
 ) -> WorkQueue
-    requires { Lent (length degrees.now) (pending_in q residual priorities nodes queued) }
+    requires { Lent (length degrees.now) (pending q residual.now priorities.old nodes.old queued.old) }
     ensures { Moved (Weighing degrees.now) (λ way. each (offer way) (inside (length degrees.now) sources.now)) (length degrees.now)
-        (pending_before q residual priorities nodes queued) (pending_after result residual priorities nodes queued) }
+        (pending q residual.now priorities.old nodes.old queued.old) (pending result residual.now priorities.new nodes.new queued.new) }
 {
     let mut w = q;
     let mut i = 0;
@@ -92,7 +94,7 @@ fn blank(
 ) -> Progress
     requires { Room (length priorities.now) estimate.old residual.old priorities.now nodes.now queued.old visited.old }
     ensures { LeavesState Every (λ _. Rules.blank (length priorities.now) threshold) (length priorities.now)
-        (holding_after result estimate residual priorities nodes queued visited) }
+        (holding result estimate.new residual.new priorities.now nodes.now queued.new visited.new) }
 {
     numbers::clear_floats(estimate);
     numbers::clear_floats(residual);

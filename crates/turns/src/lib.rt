@@ -1,5 +1,7 @@
 // One turn of a push solver, which both directions share, over lent buffers: the next node leaves the queue, and is skipped
 // or pushed. A promise says that the state that the buffers stand for is moved as the rules say; `backward` is the direction.
+#![tactic(auto)]
+
 ghost use Rattle.std.specs.Prelude.{◌<◌, length};
 ghost use Rattle.refusals.specs.Refusals.{Sound};
 ghost use Rattle.rules.specs.Rules as Rules;
