@@ -1,4 +1,6 @@
 // Backward solves of a list of links, for the public calls: the rows are made in lent buffers, solved and cleared.
+#![tactic(auto)]
+
 ghost use Rattle.std.specs.Prelude.{false, ◌≡◌, List, [], ◌∷◌, ◌++◌, ℕ, ◌+◌, ◌≤◌, length};
 ghost use Rattle.refusals.specs.Refusals.{lengths_differ, Sound, link_tests};
 ghost use Rattle.refusals.specs.Calls.{outcome_of};

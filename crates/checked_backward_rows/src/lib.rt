@@ -1,4 +1,6 @@
 // What a backward call with rows does: refused with the first number that applies, or solved.
+#![tactic(auto)]
+
 ghost use Rattle.std.specs.Prelude.{false, ◌≡◌, List, [], ◌∷◌, ◌++◌, ℕ, ◌+◌, ◌≤◌, length};
 ghost use Rattle.refusals.specs.Refusals.{lengths_differ, row_tests};
 ghost use Rattle.refusals.specs.Calls.{outcome_of};

@@ -1,4 +1,6 @@
 // What a forward call with rows does: refused with the first number that applies, or solved.
+#![tactic(auto)]
+
 ghost use Rattle.std.specs.Prelude.{◌≡◌, [], ◌∷◌, ◌+◌, ◌≤◌, length};
 ghost use Rattle.refusals.specs.Refusals.{row_tests};
 ghost use Rattle.refusals.specs.Calls.{outcome_of};
