@@ -1,5 +1,7 @@
 // Bidirectional and adaptive solves of a list of links, for the public calls: the rows are made in lent buffers, solved and
 // cleared.
+#![tactic(auto)]
+
 ghost use Rattle.std.specs.Prelude.{◌≡◌, [], ◌+◌, length};
 ghost use Rattle.refusals.specs.Refusals.{Sound};
 ghost use Rattle.refusals.specs.Calls.{outcome_of};

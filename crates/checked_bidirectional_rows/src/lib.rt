@@ -1,4 +1,6 @@
 // What a bidirectional or adaptive call with rows does: refused with the first number that applies, or solved.
+#![tactic(auto)]
+
 ghost use Rattle.refusals.specs.Calls.{outcome_of};
 ghost use Rattle.calls.specs.Lent.{solve_lent};
 ghost use Rattle.calls.specs.Outcomes.{given_rows};

@@ -1,3 +1,5 @@
 // A backward solve from one target: the public calls for a list of links and for rows.
+#![tactic(auto)]
+
 pub mod links;
 pub mod rows;

@@ -1,3 +1,5 @@
 // A forward solve that stops early for a watched target: the public calls for a list of links and for rows.
+#![tactic(auto)]
+
 pub mod links;
 pub mod rows;

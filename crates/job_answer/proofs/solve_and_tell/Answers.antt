@@ -1,0 +1,19 @@
+-- `job_answer::solve_and_tell` meets its contract: what the solve answers and leaves is the job's text. Assumes nothing.
+use mathlib.Core.Path.{sym, ◌∙◌}
+use native.Mathlib.Omega.{arith}
+use Rattle.calls.specs.Lent.{solve_lent, links_lent}
+use Rattle.job_answer.proofs.Texts.{solve_writes}
+use Rattle.job_answer.proofs.solve_and_tell.Goals as goal
+
+pub tell-requires : goal.tell-requires
+tell-requires c = let q = c.requires in
+    let e = c.solve_multi_source_links-solved.auto.estimate in
+    let r = c.solve_multi_source_links-solved.auto.residual in
+    (omega (arith, e, q.1.1.estimate_long, q.0.0), r ∙ q.1.1.residual_long ∙ sym (e ∙ q.1.1.estimate_long), q.0.2)
+
+pub returns : goal.returns
+returns c = let a = c.args in
+    let q = c.requires in
+    solve_writes a.n a.from.now a.to.now a.weight.now a.sources.now a.settings
+    (links_lent a.starts.now a.columns.now a.weights.now (solve_lent a.estimate.now a.residual.now a.degrees.now a.priorities.now a.nodes.now a.queued.now a.visited.now))
+    q.0.1 q.1.0 q.1.1 c.solve_multi_source_links-solved.ensures c.tell.ensures

@@ -1,0 +1,43 @@
+-- `job_answer::solve_lists` meets its contract: each part that it lends has the length that is stated. Assumes nothing.
+use mathlib.Core.Path.{sym}
+use native.Mathlib.Omega.{arith}
+use lib.Seq.{length-take-le}
+use Rattle.calls.specs.Lent.{words}
+use Rattle.job_answer.proofs.solve_lists.Goals as goal
+
+pub slice_bounds-solve_and_tell-end : goal.slice_bounds-solve_and_tell-end
+slice_bounds-solve_and_tell-end c = sym (length-take-le _ _ (omega arith))
+
+pub slice_bounds-solve_and_tell-end-2 : goal.slice_bounds-solve_and_tell-end-2
+slice_bounds-solve_and_tell-end-2 c = sym (length-take-le _ _ (omega arith))
+
+pub slice_bounds-solve_and_tell-end-3 : goal.slice_bounds-solve_and_tell-end-3
+slice_bounds-solve_and_tell-end-3 c = sym (length-take-le _ _ (omega arith))
+
+pub slice_bounds-solve_and_tell-end-4 : goal.slice_bounds-solve_and_tell-end-4
+slice_bounds-solve_and_tell-end-4 c = sym (length-take-le _ _ (omega arith))
+
+pub slice_bounds-solve_and_tell-end-5 : goal.slice_bounds-solve_and_tell-end-5
+slice_bounds-solve_and_tell-end-5 c = sym (length-take-le _ _ (omega arith))
+
+pub slice_bounds-solve_and_tell-end-6 : goal.slice_bounds-solve_and_tell-end-6
+slice_bounds-solve_and_tell-end-6 c = sym (length-take-le _ _ (omega arith))
+
+pub slice_bounds-solve_and_tell-end-7 : goal.slice_bounds-solve_and_tell-end-7
+slice_bounds-solve_and_tell-end-7 c = sym (length-take-le _ _ (omega arith))
+
+pub solve_and_tell-requires : goal.solve_and_tell-requires
+unfolding words
+solve_and_tell-requires c = let q = c.requires in record {
+  n_bound = q.0;
+  rows_long = q.1;
+  solve_long = record {
+    estimate_long = length-take-le _ _ (omega arith);
+    residual_long = length-take-le _ _ (omega arith);
+    degrees_long = length-take-le _ _ (omega arith);
+    priorities_long = length-take-le _ _ (omega arith);
+    nodes_long = length-take-le _ _ (omega arith);
+    queued_long = length-take-le _ _ (omega arith);
+    visited_long = length-take-le _ _ (omega arith);
+  };
+}

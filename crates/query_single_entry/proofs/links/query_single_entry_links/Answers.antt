@@ -1,0 +1,14 @@
+-- `query_single_entry_links` meets its contract: what `checked_links` leaves, and the score in it. Assumes nothing.
+use mathlib.Core.Path.{refl}
+use native.Mathlib.Omega.{arith}
+use Rattle.watching.specs.Watching.{watch_in}
+use Rattle.calls.proofs.Leaving.{no_further, query_answered}
+use Rattle.calls.proofs.Vectors.{forward_vectors, links_vectors}
+use Rattle.query_single_entry.proofs.links.query_single_entry_links.Goals as goal
+
+pub checked_links-c-requires : goal.checked_links-c-requires
+checked_links-c-requires c = λ _. omega arith
+
+pub returns : goal.returns
+unfolding watch_in
+returns c = query_answered _ _ (links_vectors forward_vectors _ _ _ _ _) (no_further refl c.checked_links-c.ensures) c.answered.ensures

@@ -1,0 +1,19 @@
+-- `query_transition_probability_rows` meets its contract: what `checked_rows` leaves, and the score in it. Assumes nothing.
+use mathlib.Core.List.{[]}
+use mathlib.Core.Path.{refl}
+use native.Mathlib.Omega.{arith}
+use Rattle.watching.specs.Watching.{watch_in}
+use Rattle.calls.proofs.Leaving.{no_further, query_answered}
+use Rattle.calls.proofs.Vectors.{rows_vectors}
+use Rattle.calls.proofs.Lengths.{none_besides}
+use Rattle.backward_push.proofs.Reversing.{backward_vectors}
+use Rattle.query_transition_probability.proofs.rows.query_transition_probability_rows.Goals as goal
+
+pub checked_rows-c-requires : goal.checked_rows-c-requires
+checked_rows-c-requires c = λ _. omega arith
+
+pub returns : goal.returns
+unfolding watch_in
+returns c = query_answered _ _ (rows_vectors backward_vectors _ _ _ _ _)
+    (no_further refl (c.checked_rows-c.ensures [] none_besides))
+    c.answered.ensures

@@ -1,0 +1,19 @@
+-- `solve_single_target_rows` meets its contract: what `checked_rows` leaves, and the norm. Assumes nothing.
+use mathlib.Core.List.{[]}
+use mathlib.Core.Path.{refl}
+use native.Mathlib.Omega.{arith}
+use Rattle.watching.specs.Watching.{watch_in}
+use Rattle.calls.proofs.Leaving.{no_further, solve_measured}
+use Rattle.calls.proofs.Vectors.{rows_vectors}
+use Rattle.calls.proofs.Lengths.{none_besides}
+use Rattle.backward_push.proofs.Reversing.{backward_vectors}
+use Rattle.solve_single_target.proofs.rows.solve_single_target_rows.Goals as goal
+
+pub checked_rows-c-requires : goal.checked_rows-c-requires
+checked_rows-c-requires c = λ _. omega arith
+
+pub returns : goal.returns
+unfolding watch_in
+returns c = solve_measured (rows_vectors backward_vectors _ _ _ _ _)
+    (no_further refl (c.checked_rows-c.ensures [] none_besides))
+    c.measured.ensures
