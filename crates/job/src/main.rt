@@ -1,5 +1,7 @@
 // Reads one job from standard input, and prints its text.
 // The standard streams.
+#![tactic(auto)]
+
 const STDIN_FILENO: i32 = 0;
 
 const STDOUT_FILENO: i32 = 1;
