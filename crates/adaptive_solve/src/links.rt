@@ -10,8 +10,7 @@ ghost use Rattle.bidirectional_push.specs.Outcomes.{adaptive_solve};
 use calls::Scored;
 use refusals::Settings;
 
-#[unsafe(no_mangle)]
-pub extern "C" fn adaptive_solve_links(
+pub fn adaptive_solve_links(
     n: u32,
     from: &[u32],
     to: &[u32],

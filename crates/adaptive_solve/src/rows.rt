@@ -10,8 +10,7 @@ ghost use Rattle.bidirectional_push.specs.Outcomes.{adaptive_solve};
 use calls::Scored;
 use refusals::Settings;
 
-#[unsafe(no_mangle)]
-pub extern "C" fn adaptive_solve_rows<'a>(
+pub fn adaptive_solve_rows<'a>(
     n: u32,
     starts: &[u32],
     columns: &'a [u32],

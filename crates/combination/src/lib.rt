@@ -43,8 +43,7 @@ pub fn combine(
 }
 
 // Combines the vectors of a backward and of a forward solve; alpha is the backward one.
-#[unsafe(no_mangle)]
-pub extern "C" fn combine_with_forward(
+pub fn combine_with_forward(
     backward_estimate: &[f64],
     backward_residual: &[f64],
     forward_estimate: &[f64],

@@ -35,8 +35,7 @@ fn refuse(n: u32, starts: &[u32], columns: &[u32], weights: &[f64]) -> u32
 }
 
 // Whether there is a link.
-#[unsafe(no_mangle)]
-pub extern "C" fn has_edge(
+pub fn has_edge(
     n: u32,
     starts: &[u32],
     columns: &[u32],
@@ -66,8 +65,7 @@ pub extern "C" fn has_edge(
 }
 
 // The weight of the first link.
-#[unsafe(no_mangle)]
-pub extern "C" fn edge_weight(
+pub fn edge_weight(
     n: u32,
     starts: &[u32],
     columns: &[u32],

@@ -4,8 +4,7 @@ ghost use Rattle.refusals.specs.Calls.{outcome_of};
 ghost use Rattle.forward_push.specs.Outcomes.{extrapolating};
 
 // Estimate + alpha × residual, refused by 1, 3 and 6.
-#[unsafe(no_mangle)]
-pub extern "C" fn extrapolated_solution(
+pub fn extrapolated_solution(
     estimate: &[f64],
     residual: &[f64],
     alpha: f64,

@@ -15,8 +15,7 @@ pub struct Built {
 }
 
 // The compressed rows of a list of links, and how many links are kept.
-#[unsafe(no_mangle)]
-pub extern "C" fn from_edges(
+pub fn from_edges(
     n: u32,
     from: &[u32],
     to: &[u32],
@@ -47,8 +46,7 @@ pub extern "C" fn from_edges(
 }
 
 // What the Rust's `PushGraph` holds beside the rows that it is given: the transposed rows and the degrees of both.
-#[unsafe(no_mangle)]
-pub extern "C" fn from_matrix(
+pub fn from_matrix(
     n: u32,
     starts: &[u32],
     columns: &[u32],
@@ -96,8 +94,7 @@ pub extern "C" fn from_matrix(
 }
 
 // The transposed rows.
-#[unsafe(no_mangle)]
-pub extern "C" fn transpose(
+pub fn transpose(
     n: u32,
     starts: &[u32],
     columns: &[u32],
@@ -137,8 +134,7 @@ pub extern "C" fn transpose(
 }
 
 // The degree of each row.
-#[unsafe(no_mangle)]
-pub extern "C" fn row_sums(
+pub fn row_sums(
     n: u32,
     starts: &[u32],
     columns: &[u32],

@@ -151,8 +151,7 @@ fn not_a_number() -> f64
 }
 
 // The square root, rounded to the nearest f64: a NaN for a NaN and for whatever is below zero.
-#[unsafe(no_mangle)]
-pub extern "C" fn square_root(x: f64) -> f64
+pub fn square_root(x: f64) -> f64
     ensures { Root x result }
 {
     if x != x {
@@ -175,8 +174,7 @@ pub extern "C" fn square_root(x: f64) -> f64
 }
 
 // The squares of the elements, added from left to right, and the root of the sum.
-#[unsafe(no_mangle)]
-pub extern "C" fn compute_residual_norm(residual: &[f64]) -> f64
+pub fn compute_residual_norm(residual: &[f64]) -> f64
     ensures { Norm residual.now result }
 {
     let mut sum = 0.0;

@@ -9,8 +9,7 @@ use calls::Scored;
 use refusals::Settings;
 use watching::Watch;
 
-#[unsafe(no_mangle)]
-pub extern "C" fn query_single_entry_links(
+pub fn query_single_entry_links(
     n: u32,
     from: &[u32],
     to: &[u32],

@@ -9,8 +9,7 @@ use calls::Scored;
 use refusals::Settings;
 use watching::Watch;
 
-#[unsafe(no_mangle)]
-pub extern "C" fn query_single_entry_rows<'a>(
+pub fn query_single_entry_rows<'a>(
     n: u32,
     starts: &[u32],
     columns: &'a [u32],

@@ -10,8 +10,7 @@ use calls::Scored;
 use refusals::Settings;
 use watching::Watch;
 
-#[unsafe(no_mangle)]
-pub extern "C" fn query_transition_probability_links(
+pub fn query_transition_probability_links(
     n: u32,
     from: &[u32],
     to: &[u32],

@@ -10,8 +10,7 @@ use calls::Scored;
 use refusals::Settings;
 use watching::Watch;
 
-#[unsafe(no_mangle)]
-pub extern "C" fn query_transition_probability_rows<'a>(
+pub fn query_transition_probability_rows<'a>(
     n: u32,
     starts: &[u32],
     columns: &'a [u32],

@@ -9,8 +9,7 @@ ghost use Rattle.backward_push.specs.Outcomes.{reachability_probabilities};
 use refusals::Settings;
 use watching::Watch;
 
-#[unsafe(no_mangle)]
-pub extern "C" fn reachability_probabilities_links(
+pub fn reachability_probabilities_links(
     n: u32,
     from: &[u32],
     to: &[u32],

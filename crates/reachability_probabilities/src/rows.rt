@@ -9,8 +9,7 @@ ghost use Rattle.backward_push.specs.Outcomes.{reachability_probabilities};
 use refusals::Settings;
 use watching::Watch;
 
-#[unsafe(no_mangle)]
-pub extern "C" fn reachability_probabilities_rows<'a>(
+pub fn reachability_probabilities_rows<'a>(
     n: u32,
     starts: &[u32],
     columns: &'a [u32],

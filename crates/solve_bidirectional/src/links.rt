@@ -10,8 +10,7 @@ ghost use Rattle.bidirectional_push.specs.Outcomes.{solve_bidirectional};
 use calls::Scored;
 use refusals::Settings;
 
-#[unsafe(no_mangle)]
-pub extern "C" fn solve_bidirectional_links(
+pub fn solve_bidirectional_links(
     n: u32,
     from: &[u32],
     to: &[u32],

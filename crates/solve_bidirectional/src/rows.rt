@@ -10,8 +10,7 @@ ghost use Rattle.bidirectional_push.specs.Outcomes.{solve_bidirectional};
 use calls::Scored;
 use refusals::Settings;
 
-#[unsafe(no_mangle)]
-pub extern "C" fn solve_bidirectional_rows<'a>(
+pub fn solve_bidirectional_rows<'a>(
     n: u32,
     starts: &[u32],
     columns: &'a [u32],

@@ -9,8 +9,7 @@ use calls::Solved;
 use refusals::Settings;
 use watching::Watch;
 
-#[unsafe(no_mangle)]
-pub extern "C" fn solve_multi_target_rows<'a>(
+pub fn solve_multi_target_rows<'a>(
     n: u32,
     starts: &[u32],
     columns: &'a [u32],

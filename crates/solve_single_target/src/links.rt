@@ -9,8 +9,7 @@ use calls::Solved;
 use refusals::Settings;
 use watching::Watch;
 
-#[unsafe(no_mangle)]
-pub extern "C" fn solve_single_target_links(
+pub fn solve_single_target_links(
     n: u32,
     from: &[u32],
     to: &[u32],

@@ -23,40 +23,37 @@ const ADAPTIONS: [&str; 6] =
 
 const HEADER: &str = "\
 -- What the Rust answers on seeded small graphs, as equations with the rules. Made by oracle/rules.
-use Prim.Native.Nat.{ℕ}
-use mathlib.Core.Bool.{true, false}
-use mathlib.Core.List.{List, [], _∷_}
-use mathlib.Core.Path.{_≡_, refl, ap, _∙_}
-use lib.Dec.{lit<, lit≤}
-use lib.Ieee.{Float, odd, ofBits, ofInt, add, sub, mul, div, lt, le}
-use Rattle·numbers.specs.Numbers.{f64}
-use Rattle·numbers.specs.Choice.{if_then_else_}
-use Rattle·numbers.specs.Tables.{tabulate}
-use Rattle·refusals.specs.declared.Settings.{Settings}
-use Rattle·norm.specs.Norm.{Norm, addSquares}
-use Rattle·marks.specs.Marks.{howMany}
-use Rattle·graph.specs.Rows.{Link, link, kept, gives, rowOf, rowsOf, sumFrom, degree, into, intoFrom, transposed}
-use Rattle·queue.specs.Waiting.{waits, taken, answer, offered, better, bestFrom, next, adapted}
-use Rattle·rules.specs.Ways.{pushForward, pushBackward, effective, transition, shareOf, wayOf, over, overLinks, degreeOf}
-use Rattle·rules.specs.Rules.{each, State, unwatched, watched, blank, queued, gain, absorb, thresholdAfter, counted, offer, pass, handOut, push}
-use Rattle·rules.specs.Rules.{stops, goesOn, due, skips, visit, turn, onward, run, inside, watchable, begun, start, enough, solve}
-use Rattle·rules.specs.Answers.{visitedCount, scoreAt, extrapolated, combined, byDegrees, methodAmong, method, answerBy}
-use Rattle·rules.specs.StillDue.{stillDue}
-use Rattle·rules.specs.Cases.{Ending}
-use Rattle·rules.proofs.Ends.{run-add}
+use Rattle.std.specs.Prelude.{ℕ, true, false, List, [], ◌∷◌, ◌≡◌, refl, Float}
+use Rattle.std.proofs.Common.{ap, ◌∙◌, lit<, lit≤}
+use Rattle.std.specs.Float.Ieee.{odd, of_bits, of_int, add, sub, mul, div, lt, le}
+use Rattle.numbers.specs.Numbers.{f64}
+use Rattle.numbers.specs.Choice.{if◌then◌else◌}
+use Rattle.numbers.specs.Tables.{tabulate}
+use Rattle.refusals.specs.declared.Settings.{Settings}
+use Rattle.norm.specs.Norm.{Norm, add_squares}
+use Rattle.marks.specs.Marks.{how_many}
+use Rattle.graph.specs.Rows.{Link, link, kept, gives, row_of, rows_of, sum_from, degree, into, into_from, transposed}
+use Rattle.queue.specs.Waiting.{waits, taken, answer, offered, better, best_from, next, adapted}
+use Rattle.rules.specs.Ways.{push_forward, push_backward, effective, transition, share_of, way_of, over, over_links, degree_of}
+use Rattle.rules.specs.Rules.{each, State, unwatched, watched, blank, queued, gain, absorb, threshold_after, counted, offer, pass, hand_out, push}
+use Rattle.rules.specs.Rules.{stops, goes_on, due, skips, visit, turn, onward, run, inside, watchable, begun, start, enough, solve}
+use Rattle.rules.specs.Answers.{visited_count, score_at, extrapolated, combined, by_degrees, method_among, method, answer_by}
+use Rattle.rules.specs.StillDue.{still_due}
+use Rattle.rules.specs.Cases.{Ending}
+use Rattle.rules.proofs.Ends.{run_add}
 
 abbrev ending : ℕ → ℕ → List Float → List Float → Ending
 ending pushes visited estimate residual = record { pushes = pushes; visited = visited; estimate = estimate; residual = residual }
 
 abbrev shown : State → Ending
-shown s = ending (s .pushes) (visitedCount s) (s .estimate) (s .residual)
+shown s = ending s.pushes (visited_count s) s.estimate s.residual
 ";
 
-const UNFOLDING: &str = "unfolding if_then_else_ tabulate howMany kept gives rowOf rowsOf sumFrom degree into intoFrom \
-transposed taken answer offered better bestFrom next adapted effective transition shareOf wayOf over degreeOf each \
-blank queued gain absorb thresholdAfter counted offer pass handOut push stops goesOn due skips visit turn onward run \
-inside watchable begun start enough solve stillDue visitedCount scoreAt extrapolated combined byDegrees methodAmong method answerBy \
-addSquares ofBits ofInt add sub mul div lt le odd";
+const UNFOLDING: &str = "unfolding if◌then◌else◌ tabulate how_many kept gives row_of rows_of sum_from degree into into_from \
+transposed taken answer offered better best_from next adapted effective transition share_of way_of over degree_of each \
+blank queued gain absorb threshold_after counted offer pass hand_out push stops goes_on due skips visit turn onward run \
+inside watchable begun start enough solve still_due visited_count score_at extrapolated combined by_degrees method_among method \
+answer_by add_squares of_bits of_int add sub mul div lt le odd";
 
 /// A list as antt writes it.
 fn listed(items: impl IntoIterator<Item = String>) -> String {
@@ -118,7 +115,7 @@ impl Written {
     fn solve(&mut self, name: &str, side: &Side, watch: &str, from: &[usize], r: &Run) {
         let (graph, direction, n) = (self.graph, side.direction, r.residual.len());
         let pushes = r.push_count + usize::from(std::mem::take(&mut self.planted));
-        let way = format!("(overLinks {direction} {n} links-{graph}) {direction}-{graph}");
+        let way = format!("(over_links {direction} {n} links-{graph}) {direction}-{graph}");
         let rules = format!("shown (solve {way} {watch} {n} ({}))", nodes(from));
         let residual = numbers(&r.residual);
         let rust = format!("ending {pushes} {} ({}) ({residual})", r.nodes_visited, numbers(&r.estimate));
@@ -126,7 +123,7 @@ impl Written {
         let statement = format!("Norm ({residual}) ({})", bits(r.residual_norm));
         self.fact(&format!("{name}-norm"), &statement, &root(r.residual_norm));
         let due = listed(left::nodes(&r.residual, side.degrees, side.settings).map(|left| left.is_due().to_string()));
-        self.equation(&format!("{name}-due"), &format!("tabulate {n} (stillDue {way} ({residual}))"), &due);
+        self.equation(&format!("{name}-due"), &format!("tabulate {n} (still_due {way} ({residual}))"), &due);
     }
 }
 
@@ -192,15 +189,15 @@ fn record(c: &Settings) -> String {
     let fields = [
         ("alpha", bits(c.alpha)),
         ("epsilon", bits(c.epsilon)),
-        ("«queue_threshold»", bits(c.queue_threshold)),
-        ("«max_pushes»", c.max_pushes.to_string()),
-        ("«adaptive_threshold»", c.adaptive_threshold.to_string()),
-        ("«adaptive_step»", c.adaptive_step.to_string()),
-        ("«upper_size»", c.upper_size.to_string()),
-        ("«lower_size»", c.lower_size.to_string()),
-        ("«raising_factor»", bits(c.raising_factor)),
-        ("«lowering_factor»", bits(c.lowering_factor)),
-        ("«threshold_floor»", bits(c.threshold_floor)),
+        ("queue_threshold", bits(c.queue_threshold)),
+        ("max_pushes", c.max_pushes.to_string()),
+        ("adaptive_threshold", c.adaptive_threshold.to_string()),
+        ("adaptive_step", c.adaptive_step.to_string()),
+        ("upper_size", c.upper_size.to_string()),
+        ("lower_size", c.lower_size.to_string()),
+        ("raising_factor", bits(c.raising_factor)),
+        ("lowering_factor", bits(c.lowering_factor)),
+        ("threshold_floor", bits(c.threshold_floor)),
     ];
     format!("record {{ {} }}", fields.map(|(name, value)| format!("{name} = {value}")).join("; "))
 }
@@ -210,7 +207,7 @@ fn write_given(w: &mut Written, g: &Given) {
     let graph = w.graph;
     let links = listed(g.links.iter().map(|&(f, t, x)| format!("link {f} {t} ({})", bits(x))));
     writeln!(w.text, "\nabbrev links-{graph} : List Link\nlinks-{graph} = {links}").expect("a string");
-    for (name, c) in [("pushForward", &g.forward), ("pushBackward", &g.backward)] {
+    for (name, c) in [("push_forward", &g.forward), ("push_backward", &g.backward)] {
         writeln!(w.text, "\nabbrev {name}-{graph} : Settings\n{name}-{graph} = {}", record(c)).expect("a string");
     }
 }
@@ -222,8 +219,8 @@ fn write(w: &mut Written, g: &Given, random: &mut Random) {
     let forward = ForwardPushSolver::new(made.clone(), forward_config(&g.forward));
     let backward = BackwardPushSolver::new(made.clone(), backward_config(&g.backward));
     let both = BidirectionalPushSolver::new(made.clone(), forward_config(&g.forward), backward_config(&g.backward));
-    let along = Side { direction: "pushForward", settings: &g.forward, degrees: &made.degrees };
-    let against = Side { direction: "pushBackward", settings: &g.backward, degrees: &made.reverse_degrees };
+    let along = Side { direction: "push_forward", settings: &g.forward, degrees: &made.degrees };
+    let against = Side { direction: "push_backward", settings: &g.backward, degrees: &made.reverse_degrees };
     let (source, target) = (node(random, n), node(random, n));
     let many: Vec<usize> = (0..random.below(4)).map(|_| node(random, n)).collect();
     let precision = random.one_of(&[0.0, 0.05, 0.2, 0.5]);
@@ -241,18 +238,18 @@ fn write(w: &mut Written, g: &Given, random: &mut Random) {
     w.solve("with-source", &against, &watch(source), &[target], &stopped);
 
     let rules = |direction: &str, v: usize| {
-        format!("(solve (overLinks {direction} {n} links-{graph}) {direction}-{graph} unwatched {n} ({v} ∷ []))")
+        format!("(solve (over_links {direction} {n} links-{graph}) {direction}-{graph} unwatched {n} ({v} ∷ []))")
     };
-    let (f, b) = (rules("pushForward", source), rules("pushBackward", target));
-    w.equation("entry", &format!("scoreAt {f} {target}"), &bits(forward.query_single_entry(source, target)));
+    let (f, b) = (rules("push_forward", source), rules("push_backward", target));
+    w.equation("entry", &format!("score_at {f} {target}"), &bits(forward.query_single_entry(source, target)));
     let vectors = format!("({}) ({})", numbers(&to_target.estimate), numbers(&to_target.residual));
     let extrapolated = numbers(&backward.reachability_probabilities(target));
-    w.equation("extrapolated", &format!("extrapolated (pushBackward-{graph} .alpha) {n} {vectors}"), &extrapolated);
+    w.equation("extrapolated", &format!("extrapolated push_backward-{graph}.alpha {n} {vectors}"), &extrapolated);
     let other = format!("({}) ({})", numbers(&from_source.estimate), numbers(&from_source.residual));
     let combined = both.solve_bidirectional(source, target);
-    w.equation("combined", &format!("combined (pushBackward-{graph} .alpha) {vectors} {other} {n}"), &bits(combined));
-    let method = format!("(method {n} (rowsOf {n} links-{graph}) {source} {target})");
-    let adaptive = format!("answerBy {method} (pushBackward-{graph} .alpha) {n} {source} {target} {b} {f}");
+    w.equation("combined", &format!("combined push_backward-{graph}.alpha {vectors} {other} {n}"), &bits(combined));
+    let method = format!("(method {n} (rows_of {n} links-{graph}) {source} {target})");
+    let adaptive = format!("answer_by {method} push_backward-{graph}.alpha {n} {source} {target} {b} {f}");
     w.equation("adaptive", &adaptive, &bits(both.adaptive_solve(source, target)));
 }
 
@@ -275,13 +272,13 @@ fn write_long(w: &mut Written) {
     let (link, record) = (format!("link 0 0 ({}) ∷ []", bits(1.0)), record(&settings(CUTS[2])));
     writeln!(w.text, "\nabbrev links-{graph} : List Link\nlinks-{graph} = {link}").expect("a string");
     writeln!(w.text, "\nabbrev settings-{graph} : Settings\nsettings-{graph} = {record}").expect("a string");
-    for direction in ["pushForward", "pushBackward"] {
-        let run = format!("run (overLinks {direction} 1 links-{graph}) settings-{graph} unwatched");
-        let mut from = format!("(start (overLinks {direction} 1 links-{graph}) settings-{graph} unwatched {node})");
+    for direction in ["push_forward", "push_backward"] {
+        let run = format!("run (over_links {direction} 1 links-{graph}) settings-{graph} unwatched");
+        let mut from = format!("(start (over_links {direction} 1 links-{graph}) settings-{graph} unwatched {node})");
         let mut turns = [CUTS[0], CUTS[1] - CUTS[0], 2 * CUTS[2] + 1 - CUTS[1]].into_iter();
         for cut in CUTS {
             let made = PushGraph::from_edges(1, &links);
-            let Run { push_count: pushes, estimate, residual, .. } = if direction == "pushForward" {
+            let Run { push_count: pushes, estimate, residual, .. } = if direction == "push_forward" {
                 ForwardPushSolver::new(made, forward_config(&settings(cut))).solve_single_source(0).into()
             } else {
                 BackwardPushSolver::new(made, backward_config(&settings(cut))).solve_single_target(0).into()
@@ -301,7 +298,7 @@ fn write_long(w: &mut Written) {
             from = format!("state-{name}");
         }
         let part = |cut: usize| format!("part-{direction}-{cut}-{graph}");
-        let add = format!("run-add (overLinks {direction} 1 links-{graph}) settings-{graph} unwatched {}", CUTS[0]);
+        let add = format!("run_add (over_links {direction} 1 links-{graph}) settings-{graph} unwatched {}", CUTS[0]);
         let rest = 2 * CUTS[2] + 1 - CUTS[0];
         let proof = format!(
             "{add} {rest} _ ∙ ap ({run} {rest}) {} ∙ {add} {} state-{direction}-{} ∙ ap ({run} {}) {} ∙ {}",
@@ -315,7 +312,7 @@ fn write_long(w: &mut Written) {
         w.count += 1;
         writeln!(
             w.text,
-            "\nlong-{direction} : solve (overLinks {direction} 1 links-{graph}) settings-{graph} unwatched {node} ≡ {from}\n\
+            "\nlong-{direction} : solve (over_links {direction} 1 links-{graph}) settings-{graph} unwatched {node} ≡ {from}\n\
              unfolding solve enough\nlong-{direction} = {proof}"
         )
         .expect("a string");

@@ -45,14 +45,13 @@ pub struct Printed {
 }
 
 impl Program {
-    /// The job program, which is for x86-64. On another processor the first word of `examples/emulator` runs it, with the C
-    /// library in it, as `oracle/build` links its object file there: a loader takes as long under an emulator as the program.
+    /// The job program, which is for x86-64. On another processor the emulator runs it that `examples/emulator` names.
     pub fn job() -> Self {
         let emulator = Command::new(root().join("examples/emulator")).output().expect("examples/emulator starts");
         assert!(emulator.status.success(), "examples/emulator fails");
         let emulator = String::from_utf8(emulator.stdout).expect("a command in plain letters");
-        let mut words: Vec<_> = emulator.lines().take(1).map(PathBuf::from).collect();
-        let program = root().join(if words.is_empty() { "target/bin/job" } else { "target/oracle/job" });
+        let mut words: Vec<_> = emulator.lines().map(PathBuf::from).collect();
+        let program = root().join("crates/job/out/job");
         assert!(program.is_file(), "{} is missing: run oracle/build", program.display());
         words.push(program);
         Self { words }

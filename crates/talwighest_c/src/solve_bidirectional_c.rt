@@ -1,0 +1,130 @@
+// The score of a solve from both ends, for C. Each function calls
+// the library's of the same name, and promises what that does.
+ghost use Rattle.std.specs.Prelude.{◌≡◌};
+ghost use Rattle.refusals.specs.Calls.{outcome_of};
+ghost use Rattle.calls.specs.Lent.{solve_lent, links_lent};
+ghost use Rattle.calls.specs.Outcomes.{given_links, given_rows};
+ghost use Rattle.backward_push.specs.Lent.{back_lent};
+ghost use Rattle.bidirectional_push.specs.Lent.{both_lent, joining};
+ghost use Rattle.bidirectional_push.specs.Outcomes.{solve_bidirectional};
+
+use calls::Scored;
+use refusals::Settings;
+
+#[unsafe(no_mangle)]
+pub extern "C" fn solve_bidirectional_links(
+    n: u32,
+    from: &[u32],
+    to: &[u32],
+    weight: &[f64],
+    source: u32,
+    target: u32,
+    forward_settings: Settings,
+    backward_settings: Settings,
+    forward_estimate: &mut [f64],
+    forward_residual: &mut [f64],
+    backward_estimate: &mut [f64],
+    backward_residual: &mut [f64],
+    starts: &mut [u32],
+    columns: &mut [u32],
+    weights: &mut [f64],
+    reverse_starts: &mut [u32],
+    reverse_columns: &mut [u32],
+    reverse_weights: &mut [f64],
+    in_degrees: &mut [f64],
+    out_degrees: &mut [f64],
+    priorities: &mut [f64],
+    nodes: &mut [u32],
+    queued: &mut [u64],
+    visited: &mut [u64],
+) -> Scored
+    ensures { outcome_of result (links_lent starts.new columns.new weights.new (both_lent forward_estimate.new forward_residual.new (back_lent reverse_starts.new reverse_columns.new reverse_weights.new out_degrees.new
+        (solve_lent backward_estimate.new backward_residual.new in_degrees.new priorities.new nodes.new queued.new visited.new))))
+        ≡ solve_bidirectional (given_links joining n from.now to.now weight.now
+        (links_lent starts.old columns.old weights.old (both_lent forward_estimate.old forward_residual.old (back_lent reverse_starts.old reverse_columns.old reverse_weights.old out_degrees.old
+        (solve_lent backward_estimate.old backward_residual.old in_degrees.old priorities.old nodes.old queued.old visited.old)))))
+        source target forward_settings backward_settings }
+{
+    solve_bidirectional::links::solve_bidirectional_links(
+        n,
+        from,
+        to,
+        weight,
+        source,
+        target,
+        forward_settings,
+        backward_settings,
+        forward_estimate,
+        forward_residual,
+        backward_estimate,
+        backward_residual,
+        starts,
+        columns,
+        weights,
+        reverse_starts,
+        reverse_columns,
+        reverse_weights,
+        in_degrees,
+        out_degrees,
+        priorities,
+        nodes,
+        queued,
+        visited,
+    )
+}
+
+#[unsafe(no_mangle)]
+pub extern "C" fn solve_bidirectional_rows<'a>(
+    n: u32,
+    starts: &[u32],
+    columns: &'a [u32],
+    weights: &'a [f64],
+    source: u32,
+    target: u32,
+    forward_settings: Settings,
+    backward_settings: Settings,
+    forward_estimate: &mut [f64],
+    forward_residual: &mut [f64],
+    backward_estimate: &mut [f64],
+    backward_residual: &mut [f64],
+    reverse_starts: &mut [u32],
+    reverse_columns: &mut [u32],
+    reverse_weights: &mut [f64],
+    in_degrees: &mut [f64],
+    out_degrees: &mut [f64],
+    priorities: &mut [f64],
+    nodes: &mut [u32],
+    queued: &mut [u64],
+    visited: &mut [u64],
+) -> Scored
+    ensures { outcome_of result (both_lent forward_estimate.new forward_residual.new (back_lent reverse_starts.new reverse_columns.new reverse_weights.new out_degrees.new
+        (solve_lent backward_estimate.new backward_residual.new in_degrees.new priorities.new nodes.new queued.new visited.new)))
+        ≡ solve_bidirectional (given_rows joining n starts.now columns.now weights.now
+        (both_lent forward_estimate.old forward_residual.old (back_lent reverse_starts.old reverse_columns.old reverse_weights.old out_degrees.old
+        (solve_lent backward_estimate.old backward_residual.old in_degrees.old priorities.old nodes.old queued.old visited.old))))
+        source target forward_settings backward_settings }
+{
+    solve_bidirectional::rows::solve_bidirectional_rows(
+        n,
+        starts,
+        columns,
+        weights,
+        source,
+        target,
+        forward_settings,
+        backward_settings,
+        forward_estimate,
+        forward_residual,
+        backward_estimate,
+        backward_residual,
+        reverse_starts,
+        reverse_columns,
+        reverse_weights,
+        in_degrees,
+        out_degrees,
+        priorities,
+        nodes,
+        queued,
+        visited,
+    )
+}
