@@ -1,7 +1,7 @@
 // Reads one job from standard input, and prints its text.
-// The standard streams.
 #![tactic(auto)]
 
+// The standard streams.
 const STDIN_FILENO: i32 = 0;
 
 const STDOUT_FILENO: i32 = 1;
