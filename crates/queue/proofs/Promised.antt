@@ -12,8 +12,8 @@ use Rattle.queue.proofs.ThinPop as popping
 use Rattle.queue.specs.contracts.push_if_threshold as push_if_threshold
 use Rattle.queue.specs.contracts.pop as pop
 use Rattle.queue.specs.contracts.adaptive_threshold as adaptive_threshold
-use Rattle.queue.proofs.lent as lent
-use Rattle.queue.proofs.held as held
+use Rattle.queue.specs.contracts.lent as lent
+use Rattle.queue.specs.contracts.held as held
 
 module _ {M : Type 1} {𝓤 : Ura M} (𝓛 : Logic 𝓤) (at_mem : Memory → SProp 𝓤) (run : Routine → Fun 𝓤) where
   lent_offer : lent.offer.spec 𝓛 at_mem run ≡ closing 𝓛 offering.lent (offering.thinned 𝓤 (push_if_threshold.clauses 𝓛 at_mem run))
