@@ -29,14 +29,15 @@ thin k = record {
   ty_params = [];
   givens = 0;
   params = 4;
-  locals = lo (ty_int w32) value_local ∷ lo (ty_ref (named 0) mut (pointee Queue.written)) value_local ∷ passed 1 (lo popped_type value_local ∷ lo queue_type value_local ∷ anew []);
+  locals = lo (ty_int w32) value_local ∷ lo (ty_ref (named 0) mut (pointee Queue.written)) value_local ∷ passed 1 (lo popped_type value_local ∷ lo queue_type value_local ∷ anew (lo queue_type value_local ∷ []));
   body =
       seq (assign (place 6 []) (rv_opd (copy (place 1 (deref queue_type ∷ [])))))
       (all_made 7
       (seq (call k (copy (place 6 []) ∷ copy (place 8 []) ∷ copy (place 10 []) ∷ copy (place 12 []) ∷ []) (place 5 []))
-      (seq (assign (place 1 (deref queue_type ∷ [])) (rv_opd (copy (place 5 (field 0 ∷ [])))))
+      (seq (assign (place 13 []) (rv_opd (copy (place 5 (field 0 ∷ [])))))
+      (seq (assign (place 1 (deref queue_type ∷ [])) (rv_opd (copy (place 13 []))))
       (seq (assign (place 0 []) (rv_opd (copy (place 5 (field 1 ∷ [])))))
-      return))));
+      return)))));
 }
 
 abbrev pub holding : Callee → Fn
@@ -130,29 +131,30 @@ module _ {M : Type 1} {𝓤 : Ura M} (𝓛 : Logic 𝓤) (c : Clauses 𝓤 value
           → ent 𝓤 (sep 𝓤 (on_entry 𝓛 lent.signature (κ, κs) (q, (q₁, (q₂, (q₃, tt)))) a (vptr b o ∷ [], at)) ((c κs (h, beside)).requires g)) (WpFn 𝓤 H C Λ (thin k) (vptr b o ∷ machine x₁ ∷ machine x₂ ∷ machine x₃ ∷ []) Post)
       walk C Λ fm k known room₁ room₂ room₃ =
           qed 𝓛 (((‵ (flft κ q) ⊛ tokens 𝓤 κ₁ κ₂ κ₃ q₁ q₂ q₃) ⊛ ‵ (owns (MutRef (named 0) κ Queue ∷ buffers) a (vptr b o ∷ [], at))) ∷ raw ((c κs (h, beside)).requires g) ∷ []) ∵ split ! $ enter ! C Λ (thin k) (vptr b o ∷ machine x₁ ∷ machine x₂ ∷ machine x₃ ∷ []) _ $
-          alloc1 ! (λ l₀. alloc1 ! (λ l₁. alloc1 ! (λ l₂. alloc1 ! (λ l₃. alloc1 ! (λ l₄. alloc1 ! (λ l₅. alloc1 ! (λ l₆. alloc1 ! (λ l₇. alloc1 ! (λ l₈. alloc1 ! (λ l₉. alloc1 ! (λ l₁₀. alloc1 ! (λ l₁₁. alloc1 ! (λ l₁₂. alloc0 ! $ params1 ! $
-          pass1 ! (init ! 22 refl (tt, tt)) $ pass1 ! (init ! 20 refl (tt, (tt, (record { fits = room₁.0 }, tt)))) $ pass1 ! (init ! 18 refl (tt, (tt, (record { fits = room₂.0 }, tt)))) $ pass1 ! (init ! 16 refl (tt, (tt, (record { fits = room₃.0 }, tt)))) $ pass0 ! $
-          move ! (27 ∷ []) $ fsplit ! $ fsplit3 ! $ drop ! $ move ! (29 ∷ []) $ split ! $ move ! (2 ∷ 3 ∷ 0 ∷ []) $ opened ! tt Queue vals tells h b o (λ was.
-          -- [the record's cell; what it owns; the open borrow; obs; auth; the buffers' tokens; what the buffers own; _12; …; _1; …; room for _0; …; what g requires]
-          assigns ! (of_opd ! (load ! (from ! (hop ! (look ! 29 refl) (stop !))) (look_raw ! 0 refl))) (from ! (stop !)) (init ! 19 refl (typed 𝓛 h was)) $
-          slice_again ! 27 17 15 refl refl refl refl refl refl refl refl room₁.0 $
-          slice_again ! 25 13 11 refl refl refl refl refl refl refl refl room₂.0 $
-          slice_again ! 23 9 7 refl refl refl refl refl refl refl refl room₃.0 $
-          move ! (1 ∷ 6 ∷ 5 ∷ 33 ∷ []) $ fjoin ! $ move ! (1 ∷ 0 ∷ []) $ join ! $ join ! $ use1 𝓛 (raw ((ByValue 𝓤 𝓛 c).pre to_value)) (id⊢ 𝓤 _) $
-          calls_at ! fm (ByValue 𝓤 𝓛 c) known to_value (and_then ! (local ! 17 refl) (and_then ! (local ! 13 refl) (and_then ! (local ! 9 refl) (and_then ! (local ! 5 refl) (no_more !))))) (λ v.
+          alloc1 ! (λ l₀. alloc1 ! (λ l₁. alloc1 ! (λ l₂. alloc1 ! (λ l₃. alloc1 ! (λ l₄. alloc1 ! (λ l₅. alloc1 ! (λ l₆. alloc1 ! (λ l₇. alloc1 ! (λ l₈. alloc1 ! (λ l₉. alloc1 ! (λ l₁₀. alloc1 ! (λ l₁₁. alloc1 ! (λ l₁₂. alloc1 ! (λ l₁₃. alloc0 ! $ params1 ! $
+          pass1 ! (init ! 24 refl (tt, tt)) $ pass1 ! (init ! 22 refl (tt, (tt, (record { fits = room₁.0 }, tt)))) $ pass1 ! (init ! 20 refl (tt, (tt, (record { fits = room₂.0 }, tt)))) $ pass1 ! (init ! 18 refl (tt, (tt, (record { fits = room₃.0 }, tt)))) $ pass0 ! $
+          move ! (29 ∷ []) $ fsplit ! $ fsplit3 ! $ drop ! $ move ! (31 ∷ []) $ split ! $ move ! (2 ∷ 3 ∷ 0 ∷ []) $ opened ! tt Queue vals tells h b o (λ was.
+          -- [the record's cell; what it owns; the open borrow; obs; auth; the buffers' tokens; what the buffers own; _13; …; _1; …; room for _0; …; what g requires]
+          assigns ! (of_opd ! (load ! (from ! (hop ! (look ! 31 refl) (stop !))) (look_raw ! 0 refl))) (from ! (stop !)) (init ! 21 refl (typed 𝓛 h was)) $
+          slice_again ! 29 19 17 refl refl refl refl refl refl refl refl room₁.0 $
+          slice_again ! 27 15 13 refl refl refl refl refl refl refl refl room₂.0 $
+          slice_again ! 25 11 9 refl refl refl refl refl refl refl refl room₃.0 $
+          move ! (1 ∷ 6 ∷ 5 ∷ 35 ∷ []) $ fjoin ! $ move ! (1 ∷ 0 ∷ []) $ join ! $ join ! $ use1 𝓛 (raw ((ByValue 𝓤 𝓛 c).pre to_value)) (id⊢ 𝓤 _) $
+          calls_at ! fm (ByValue 𝓤 𝓛 c) known to_value (and_then ! (local ! 19 refl) (and_then ! (local ! 15 refl) (and_then ! (local ! 11 refl) (and_then ! (local ! 7 refl) (no_more !))))) (λ v.
           told ! tt value c to_value v (λ r zs. use1 𝓛 (tokens 𝓤 κ₁ κ₂ κ₃ q₁ q₂ q₃) (id⊢ 𝓤 _) $ move ! (0 ∷ 3 ∷ []) $ join ! $
-          -- [the buffers' tokens and what g ensures; what the result owns; what is said of last lists; the record's cell; the open borrow; obs; auth; _12; …; _1; …; room for _0; …]
+          -- [the buffers' tokens and what g ensures; what the result owns; what is said of last lists; the record's cell; the open borrow; obs; auth; _13; …; _1; …; room for _0; …]
           move ! (2 ∷ []) $ fsplit ! $ drop ! $ last_slice ! (λ e₁. move ! (1 ∷ []) $ last_slice ! (λ e₂. move ! (1 ∷ []) $ last_slice ! (λ e₃.
           move ! (5 ∷ []) $ peeks ! PoppedRow (Is PoppedRow) (shows 𝓛 PoppedRow) r (v ∷ []) (λ is.
-          -- [what the result owns; marks' last list; …; nodes'; priorities'; the tokens and what g ensures; the record's cell; the open borrow; obs; auth; _12; …; _1; …; room for _0; …]
-          land ! (from ! (stop !)) (init ! 24 refl (popped_typed 𝓛 r is)) $
-          rewrite ! 24 (λ (u : Val). ‵ (fat full_share popped_type l₅ 0 u)) (ap only (popped_tells r _ is)) refl $
+          -- [what the result owns; marks' last list; …; nodes'; priorities'; the tokens and what g ensures; the record's cell; the open borrow; obs; auth; _13; …; _1; …; room for _0; …]
+          land ! (from ! (stop !)) (init ! 26 refl (popped_typed 𝓛 r is)) $
+          rewrite ! 26 (λ (u : Val). ‵ (fat full_share popped_type l₅ 0 u)) (ap only (popped_tells r _ is)) refl $
           drop ! $ owned ! Queue (Is Queue) (makes 𝓛) r.queue _ (queue_in r is) $
-          assigns ! (of_opd ! (load ! (from ! (fld ! refl (stop !))) (look_in ! 24 (sub ! 0 refl (whole !))))) (from ! (hop ! (look ! 32 refl) (stop !))) (store_raw ! 6 refl (typed 𝓛 r.queue (queue_in r is))) $
-          assigns ! (of_opd ! (load ! (from ! (fld ! refl (stop !))) (look_in ! 24 (sub ! 1 refl (whole !))))) (from ! (stop !)) (init ! 34 refl (tt, record { fits = node_in r is })) $
+          assigns ! (of_opd ! (load ! (from ! (fld ! refl (stop !))) (look_in ! 26 (sub ! 0 refl (whole !))))) (from ! (stop !)) (init ! 10 refl (typed 𝓛 r.queue (queue_in r is))) $
+          assigns ! (of_opd ! (local ! 10 refl)) (from ! (hop ! (look ! 34 refl) (stop !))) (store_raw ! 6 refl (typed 𝓛 r.queue (queue_in r is))) $
+          assigns ! (of_opd ! (load ! (from ! (fld ! refl (stop !))) (look_in ! 26 (sub ! 1 refl (whole !))))) (from ! (stop !)) (init ! 36 refl (tt, record { fits = node_in r is })) $
           move ! (6 ∷ 0 ∷ 7 ∷ 8 ∷ 9 ∷ []) $ closes ! tt Queue r.queue (vals r.queue) b o $
-          returns ! (look ! 32 refl) $ move ! (32 ∷ 33 ∷ []) $ gone ! $ move ! (30 ∷ 31 ∷ []) $ gone ! $ move ! (28 ∷ 29 ∷ []) $ gone ! $ move ! (26 ∷ 27 ∷ []) $ gone ! $ move ! (24 ∷ 25 ∷ []) $ gone ! $ move ! (22 ∷ 23 ∷ []) $ gone ! $ move ! (20 ∷ 21 ∷ []) $ gone ! $ move ! (18 ∷ 19 ∷ []) $ gone ! $ move ! (16 ∷ 17 ∷ []) $ gone ! $ move ! (14 ∷ 15 ∷ []) $ gone ! $ move ! (12 ∷ 13 ∷ []) $ gone ! $ move ! (10 ∷ 11 ∷ []) $ gone ! $ move ! (8 ∷ 9 ∷ []) $ gone ! $ free0 ! $
-          keep ! (0 ∷ 1 ∷ 2 ∷ 7 ∷ 6 ∷ 5 ∷ 3 ∷ []) $ by ! (exits r (node_in r is) zs e₁ e₂ e₃)))))))))))))))))))))
+          returns ! (look ! 34 refl) $ move ! (34 ∷ 35 ∷ []) $ gone ! $ move ! (32 ∷ 33 ∷ []) $ gone ! $ move ! (30 ∷ 31 ∷ []) $ gone ! $ move ! (28 ∷ 29 ∷ []) $ gone ! $ move ! (26 ∷ 27 ∷ []) $ gone ! $ move ! (24 ∷ 25 ∷ []) $ gone ! $ move ! (22 ∷ 23 ∷ []) $ gone ! $ move ! (20 ∷ 21 ∷ []) $ gone ! $ move ! (18 ∷ 19 ∷ []) $ gone ! $ move ! (16 ∷ 17 ∷ []) $ gone ! $ move ! (14 ∷ 15 ∷ []) $ gone ! $ move ! (12 ∷ 13 ∷ []) $ gone ! $ move ! (10 ∷ 11 ∷ []) $ gone ! $ move ! (8 ∷ 9 ∷ []) $ gone ! $ free0 ! $
+          keep ! (0 ∷ 1 ∷ 2 ∷ 7 ∷ 6 ∷ 5 ∷ 3 ∷ []) $ by ! (exits r (node_in r is) zs e₁ e₂ e₃))))))))))))))))))))))
 
     -- ---- the function that holds the record in a local
     abbrev HeldPost : Val → SProp 𝓤
