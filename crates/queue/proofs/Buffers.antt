@@ -1,5 +1,5 @@
 -- The three buffers that are lent beside the queue's record: in MIR, in a signature by value (at its lifetimes 0, 1 and 2) and in one with the record lent (at 1, 2 and 3), and what a walk has of them.
--- A walk passes them on at their own lifetimes, shares and ghost names: they are given up for good, and what the callee says of their last lists is what the caller says of them (`gave_slice`).
+-- A walk passes them on at their own lifetimes, shares and ghost names: they are given up for good, and what the callee says of their last lists, with the borrows that it hands back closed, is what the caller says of them (`gave_slice`).
 -- Assumes nothing: these are definitions.
 use Rattle.queue.proofs.Logic.{◌+◌, ℕ, [], ◌∷◌, List, length, binary64, Ura, named, w32, Val, Lft, Share, ftrue, flft, fbor, Item, ‵, ◌⊛◌, u32, u64, f64, RattleType, mem, MutBor, slice_val, finally, plain, Stays, gave_slice, yes}
 use base.Fml.{Fml, fsep}

@@ -9,16 +9,15 @@ pub use denote.Laws.{Is, shows}
 pub use denote.Memory.{mem, cell_at}
 pub use denote.Plain.{uint_vals, uint_Tells, uint_Makes}
 pub use denote.RattleType.{owns, RattleType}
-pub use denote.Ref.{Bor, MutBor, MutRef, shr_vals, mut_vals, mut_Tells}
+pub use denote.Ref.{MutBor, MutRef, mut_vals, mut_Tells}
 pub use denote.Signature.{plain}
-pub use denote.Slice.{slice_val, MutSlice, Room, finally, shr_slice_vals, mut_slice_vals, mut_slice_Tells}
+pub use denote.Slice.{slice_val, MutSlice, Room, finally, mut_slice_vals, mut_slice_Tells}
 pub use denote.Steps.{closes, peeks, nothing, owned, only}
 pub use denote.Triple.Call.{calls_at}
 pub use denote.Triple.Entry.{on_entry}
 pub use denote.Triple.Spec.{triple_of}
 pub use denote.Triple.Statement.{Contract, Triple}
 pub use denote.Triple.Walked.{Stays, stay_ref, walk_of, Goes-ref, ends_at, stay_none, gave_slice, Goes-none, Goes-gave_slice}
-pub use ghost.Atoms.{Atoms}
 pub use base.Fraction.{full_share}
 pub use seplogic.Ra.Ura.{Ura}
 pub use lib.Dec.{T as Passes}
@@ -29,7 +28,7 @@ pub use mathlib.Core.List.{[], ◌∷◌, List}
 pub use mathlib.Core.Path.{◌≡◌, refl, ap, sym, subst}
 pub use mir.Syntax.{named, w32, ty_unit}
 pub use mir.Val.{Val, vunit, vptr, vint, vfloat, WT, has_ty}
-pub use prog.Wp.{Heap, Calls, Loops, WpFn}
+pub use prog.Wp.{Calls, Loops, WpFn}
 pub use sound.WpLaws.{FmC, fm_of}
 pub use types.Kit.{‵, raw, ◌⊛◌, ⋆, ◌$◌, ◌∵◌, !, qed, by, move, keep, drop, use1, split, join, fsplit, fsplit3, fjoin, fjoin3, feq_i, suffices, done, Item, rewrite, feq_l}
 pub use types.Part.{whole, sub, look_in, agg}

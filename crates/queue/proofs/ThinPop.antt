@@ -21,7 +21,7 @@ use Rattle.queue.proofs.Local.{lends_local, local_back}
 use Rattle.queue.proofs.Record.{Queue, QueueSlot, queue_type, vals, spelled, tells, typed, makes, PoppedRow, PoppedSlot, popped_type, popped_vals, popped_tells, queue_in, node_in, popped_is, popped_typed, popped_makes}
 use Rattle.queue.proofs.Thin.{local, slice_again, opened, told, last_slice, gone, meets_by}
 
--- the code of f and of h, over the key of what each calls
+-- the code of f and of h, over the key of what each calls. In f the record goes from the result by a local of its own, 13, to where the reference points
 abbrev pub thin : Callee → Fn
 thin k = record {
   lifetimes = 4;
