@@ -1,4 +1,6 @@
 // Reads one job from standard input, and prints its text.
+#![tactic(auto)]
+
 // The standard streams.
 const STDIN_FILENO: i32 = 0;
 

@@ -6,3 +6,12 @@ mod Settle
 mod Best
 mod Enter
 mod Leave
+mod Logic
+mod Local
+mod Record
+mod Thin
+mod Buffers
+mod ThinAdapt
+mod ThinOffer
+mod ThinPop
+mod Promised

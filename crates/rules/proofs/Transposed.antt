@@ -12,7 +12,7 @@ use lib.Dec.{ltb, eqb}
 use Rattle.numbers.specs.Choice.{if◌then◌else◌}
 use Rattle.numbers.proofs.Tables.{table_at}
 use Rattle.numbers.proofs.Choice.{decided}
-use Rattle.graph.specs.Rows.{Entry, link, entry, into, into_from, transposed}
+use Rattle.graph.specs.Rows.{Entry, entry, into, into_from, transposed}
 use Rattle.rules.specs.Ways.{row_at}
 
 -- an entry of a row that leads to t

@@ -1,1 +1,3 @@
+#![tactic(auto)]
+
 // The push rules are definitions and theorems alone: see specs/ and proofs/.

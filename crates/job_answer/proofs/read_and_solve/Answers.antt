@@ -8,17 +8,17 @@ use Rattle.job_answer.proofs.read_and_solve.Goals as goal
 pub read_words-requires : goal.read_words-requires
 read_words-requires c = let q = c.requires in
     let s = shape c.args.bytes.now c.requires.bytes_value.0 in
-    omega (arith, s.long, q.1.0)
+    omega (arith, s.long, q.from_len.0)
 
 pub read_words-requires-2 : goal.read_words-requires-2
 read_words-requires-2 c = let q = c.requires in
     let s = shape c.args.bytes.now c.requires.bytes_value.0 in
-    omega (arith, s.long, q.0.1.to_long, q.1.0)
+    omega (arith, s.long, q.bytes_value.1.to_long, q.from_len.0)
 
 pub read_floats-requires : goal.read_floats-requires
 read_floats-requires c = let q = c.requires in
     let s = shape c.args.bytes.now c.requires.bytes_value.0 in
-    omega (arith, s.long, q.0.1.weight_long, q.1.0)
+    omega (arith, s.long, q.bytes_value.1.weight_long, q.from_len.0)
 
 pub overflow_add-from : goal.overflow_add-from
 overflow_add-from c = let s = shape c.args.bytes.now c.requires.bytes_value.0 in
@@ -27,7 +27,7 @@ overflow_add-from c = let s = shape c.args.bytes.now c.requires.bytes_value.0 in
 pub read_words-requires-3 : goal.read_words-requires-3
 read_words-requires-3 c = let q = c.requires in
     let s = shape c.args.bytes.now c.requires.bytes_value.0 in
-    omega (arith, s.long, c.read_words.auto.list, q.1.0, q.1.1)
+    omega (arith, s.long, c.read_words.auto.list, q.from_len.0, q.from_len.1)
 
 pub word-requires : goal.word-requires
 word-requires c = let s = shape c.args.bytes.now c.requires.bytes_value.0 in
@@ -41,10 +41,10 @@ pub solve_links-requires : goal.solve_links-requires
 solve_links-requires c = let q = c.requires in
     let s = shape c.args.bytes.now c.requires.bytes_value.0 in
     let from = c.read_words.auto.list in
-    record { n_bound = (omega (arith, c.word.ensures, s.few_nodes), record { to_long = c.read_words-2.auto.list ∙ q.0.1.to_long ∙ sym from; weight_long = c.read_floats.auto.list ∙ q.0.1.weight_long ∙ sym from }, q.0.2); from_len_bound = omega (arith, from, q.1.0, s.few_links) }
+    record { n_bound = (omega (arith, c.word.ensures, s.few_nodes), record { to_long = c.read_words-2.auto.list ∙ q.bytes_value.1.to_long ∙ sym from; weight_long = c.read_floats.auto.list ∙ q.bytes_value.1.weight_long ∙ sym from }, q.bytes_value.2); from_len_bound = omega (arith, from, q.from_len.0, s.few_links) }
 
 pub returns : goal.returns
 returns c = let a = c.args in
     let q = c.requires in
     rw (job_read a.bytes.now c.word.ensures c.read_words.ensures c.read_words-2.ensures c.read_floats.ensures c.read_words-3.ensures
-    c.settings_in.ensures q.1.0 q.0.1.to_long q.0.1.weight_long c.read_words.auto.list q.1.1) at c.solve_links.ensures
+    c.settings_in.ensures q.from_len.0 q.bytes_value.1.to_long q.bytes_value.1.weight_long c.read_words.auto.list q.from_len.1) at c.solve_links.ensures

@@ -29,8 +29,8 @@ slice_bounds-solve_and_tell-end-7 c = sym (length-take-le _ _ (omega arith))
 pub solve_and_tell-requires : goal.solve_and_tell-requires
 unfolding words
 solve_and_tell-requires c = let q = c.requires in record {
-  n_bound = q.0;
-  rows_long = q.1;
+  n_bound = q.n_bound;
+  rows_long = q.rows_long;
   solve_long = record {
     estimate_long = length-take-le _ _ (omega arith);
     residual_long = length-take-le _ _ (omega arith);

@@ -1,5 +1,5 @@
 -- `job_fields::read_words` meets its contract. The invariant: the first i are written (`over`). Assumes nothing.
-use Prim.Native.Nat.{◌-◌, zero-le}
+use Prim.Native.Nat.{zero-le}
 use native.Mathlib.Omega.{arith}
 use mathlib.Core.Path.{refl, sym, ◌∙◌}
 use lib.ListN.{length, length-set}

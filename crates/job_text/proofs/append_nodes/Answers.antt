@@ -1,5 +1,4 @@
 -- `job_text::append_nodes` meets its contract. The invariant: the lines of the first v nodes are put. Assumes nothing.
-use Prim.Native.Nat.{◌-◌}
 use native.Mathlib.Nat.{zero-add}
 use native.Mathlib.Numerals.{add-one}
 use native.Mathlib.Omega.{arith}

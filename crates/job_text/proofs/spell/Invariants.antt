@@ -1,5 +1,5 @@
 -- `job_text::spell` meets its contract. The invariant: the digits that are left, and behind them what is put already, are all digits. Assumes nothing.
-use Prim.Native.Nat.{◌-◌, ◌≤◌}
+use Prim.Native.Nat.{◌≤◌}
 use mathlib.Core.List.{◌++◌}
 use mathlib.Core.Path.{◌≡◌}
 use lib.ListN.{length, drop}

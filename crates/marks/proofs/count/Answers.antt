@@ -1,7 +1,7 @@
 -- `marks::count` meets its contract. The invariant: n is the count of the words passed, at most 64 for each, and each of these words has 64 bits, which
 -- `all_ones_marked` asks. Assumes nothing.
 use mathlib.Core.Path.{◌≡◌, refl, sym, ap, ◌∙◌}
-use Prim.Native.Nat.{ℕ, ◌+◌, ◌-◌}
+use Prim.Native.Nat.{ℕ, ◌+◌}
 use native.Mathlib.Omega.{arith}
 use lib.ListN.{get_or}
 use lib.Seq.{take_all}

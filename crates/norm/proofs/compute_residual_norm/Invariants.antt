@@ -1,6 +1,6 @@
 -- `norm::compute_residual_norm` meets its contract. The invariant: adding the squares of what is left to the sum gives the whole sum. Assumes nothing.
 use mathlib.Core.Path.{◌≡◌}
-use Prim.Native.Nat.{◌+◌, ◌-◌, ◌≤◌}
+use Prim.Native.Nat.{◌-◌, ◌≤◌}
 use lib.ListN.{length, drop}
 use Rattle.numbers.specs.Numbers.{+0}
 use Rattle.norm.specs.Norm.{add_squares}

@@ -1,6 +1,6 @@
 -- `norm::normalized` meets its contract. A turn doubles the significand and lowers the exponent by one, which leaves the product. Assumes nothing.
 use mathlib.Core.Path.{◌≡◌}
-use Prim.Native.Nat.{ℕ, ◌-◌, ◌*◌, ◌^◌, ◌≤◌, ◌<◌}
+use Prim.Native.Nat.{ℕ, ◌*◌, ◌^◌, ◌≤◌, ◌<◌}
 use Rattle.norm.proofs.normalized.Given as goal
 
 -- the exponent is not used up while the significand is short, and the number is what it was

@@ -1,5 +1,4 @@
 -- `norm::whole_root` meets its contract: each turn of its loop is one of `Digits.antt`. Assumes nothing.
-use Prim.Native.Nat.{◌-◌}
 use native.Mathlib.Omega.{arith}
 use Rattle.norm.proofs.Digits.{start, room, turn, last}
 use Rattle.norm.proofs.whole_root.Goals as goal

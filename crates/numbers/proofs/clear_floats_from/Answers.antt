@@ -1,5 +1,4 @@
 -- `numbers::clear_floats_from` meets its contract (`Over.antt`). Assumes nothing.
-use Prim.Native.Nat.{◌-◌}
 use borrow.Author.Rules.{rules}
 use Rattle.numbers.proofs.Over.{clearing_start, clearing_more, clearing_end}
 use Rattle.numbers.proofs.clear_floats_from.Goals as goal

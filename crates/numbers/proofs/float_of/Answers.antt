@@ -1,6 +1,6 @@
 -- `numbers::float_of` meets its contract: a pattern is a NaN's where, less its sign, it is above that of infinity (`nan_bits_above`). Assumes nothing.
 use Prim.Native.Nat.{ℕ, ◌%◌, ◌≤◌, ◌<◌}
-use mathlib.Core.Bool.{true, false, not, false≢true}
+use mathlib.Core.Bool.{true, not, false≢true}
 use mathlib.Core.Path.{◌≡◌, refl, sym, ◌∙◌}
 use borrow.Author.Tests.{le-ltb, lt-ltb}
 use lib.Dec.{T}

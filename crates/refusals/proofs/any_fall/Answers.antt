@@ -1,5 +1,5 @@
 -- `refusals::any_fall` meets its contract. Invariant: the starts fall where they were found to, or do from i on. Assumes nothing.
-use Prim.Native.Nat.{◌-◌, zero-le}
+use Prim.Native.Nat.{zero-le}
 use mathlib.Core.Path.{refl}
 use native.Mathlib.Omega.{arith}
 use Rattle.refusals.proofs.Any.{falls_next, falls_end}

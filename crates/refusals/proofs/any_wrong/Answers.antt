@@ -1,5 +1,5 @@
 -- `refusals::any_wrong` meets its contract. Invariant: what was found, or is from i on, is what all weights have. Assumes nothing.
-use Prim.Native.Nat.{◌-◌, zero-le}
+use Prim.Native.Nat.{zero-le}
 use mathlib.Core.Path.{refl}
 use native.Mathlib.Omega.{arith}
 use lib.Ieee.{nan}
