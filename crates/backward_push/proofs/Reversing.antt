@@ -7,7 +7,7 @@ use native.Mathlib.Omega.{arith}
 use lib.ListN.{length, replicate}
 use lib.Ieee.{Float}
 use Rattle.numbers.specs.Numbers.{+0}
-use Rattle.numbers.specs.Choice.{if◌then◌else◌}
+use Rattle.numbers.specs.Choice.{if◌then◌otherwise◌}
 use Rattle.refusals.specs.Calls.{Outcome, outcome_of}
 use Rattle.graph.specs.Rows.{Entry, rows_in}
 use Rattle.graph.specs.Store.{chosen, Rowed, Buffers, RowBuffers, Compressed}
@@ -25,7 +25,7 @@ use Rattle.backward_push.specs.Promises.{Reversed}
 pub directed_backward : {n : ℕ} {starts columns reverse_starts reverse_columns : List ℕ} {weights reverse_weights in_degrees out_degrees : List Float} → Rowed n starts columns weights
     → Reversed n starts columns weights reverse_starts reverse_columns reverse_weights in_degrees out_degrees → length reverse_columns ≡ length columns → length reverse_weights ≡ length columns
     → Directed n true (rows_in n starts columns weights) reverse_starts columns reverse_columns weights reverse_weights in_degrees out_degrees
-unfolding chosen if◌then◌else◌
+unfolding chosen if◌then◌otherwise◌
 directed_backward z t c w = record {
   rowed = held_rowed t.reversed;
   columns_alike = c;

@@ -9,7 +9,7 @@ use lib.Dec.{ltb}
 use lib.Ieee.{Float}
 use borrow.Author.Tests.{ltb-true}
 use Rattle.numbers.specs.Numbers.{+0}
-use Rattle.numbers.specs.Choice.{if◌then◌else◌}
+use Rattle.numbers.specs.Choice.{if◌then◌otherwise◌}
 use Rattle.numbers.proofs.Tests.{both as all}
 use Rattle.refusals.specs.Refusals.{◌or◌, refuse_settings}
 use Rattle.refusals.specs.Calls.{Outcome, outcome_of}
@@ -44,22 +44,22 @@ use Rattle.bidirectional_push.specs.Promises.{Joins, ChecksBoth}
 -- a solve that is not used starts nowhere
 module _ (way : Way) (s : Settings) (n v : ℕ) where
   nowhere : solve way s unwatched n [] ≡ blank n s.queue_threshold
-  unfolding begun watchable inside if◌then◌else◌
+  unfolding begun watchable inside if◌then◌otherwise◌
   nowhere = solve_nothing way s unwatched n [] refl
 
-  started_estimate : (used : Bool) → (solve way s unwatched n (if used then v ∷ [] else [])).estimate ≡ where_used used n (solve way s unwatched n (v ∷ [])).estimate
-  unfolding if◌then◌else◌ blank
+  started_estimate : (used : Bool) → (solve way s unwatched n (if used then v ∷ [] otherwise [])).estimate ≡ where_used used n (solve way s unwatched n (v ∷ [])).estimate
+  unfolding if◌then◌otherwise◌ blank
   started_estimate true = refl
   started_estimate false = ap (λ (z : State). z.estimate) nowhere
 
-  started_residual : (used : Bool) → (solve way s unwatched n (if used then v ∷ [] else [])).residual ≡ where_used used n (solve way s unwatched n (v ∷ [])).residual
-  unfolding if◌then◌else◌ blank
+  started_residual : (used : Bool) → (solve way s unwatched n (if used then v ∷ [] otherwise [])).residual ≡ where_used used n (solve way s unwatched n (v ∷ [])).residual
+  unfolding if◌then◌otherwise◌ blank
   started_residual true = refl
   started_residual false = ap (λ (z : State). z.residual) nowhere
 
 -- the list that it starts from is short
-pub few_listed : (used : Bool) (v : ℕ) → length (if used then v ∷ [] else []) ≤ 65536
-unfolding if◌then◌else◌
+pub few_listed : (used : Bool) (v : ℕ) → length (if used then v ∷ [] otherwise []) ≤ 65536
+unfolding if◌then◌otherwise◌
 few_listed true v = omega arith
 few_listed false v = omega arith
 
@@ -74,7 +74,7 @@ pub record Leaves (n : ℕ) (used : Bool) (z : State) (estimate residual priorit
 
 module _ {n : ℕ} {is_backward : Bool} {rows : List (List Entry)} {starts columns columns' : List ℕ} {weights weights' degrees out_degrees : List Float}
     (z : Directed n is_backward rows starts columns columns' weights weights' degrees out_degrees) (s : Settings) (v : ℕ) (used : Bool) where
-  pub solve_leaves : {sources : List ℕ} {r : Counted} {estimate residual priorities : List Float} {nodes queued visited : List ℕ} → sources ≡ (if used then v ∷ [] else [])
+  pub solve_leaves : {sources : List ℕ} {r : Counted} {estimate residual priorities : List Float} {nodes queued visited : List ℕ} → sources ≡ (if used then v ∷ [] otherwise [])
       → SolveSettled (Stands (length degrees) is_backward (lists_of starts columns columns' weights weights' degrees out_degrees)) (λ way. solve way s unwatched (length degrees) sources) (length degrees)
       r estimate residual priorities nodes queued visited
       → Leaves n used (solve (over is_backward n rows) s unwatched n (v ∷ [])) estimate residual priorities nodes queued visited
@@ -101,7 +101,7 @@ module _ {n : ℕ} {starts columns reverse_starts reverse_columns : List ℕ} {w
 
   -- so the method by degrees is the rules'
   pub method_is : (source target : ℕ) → method_among n (at out_degrees) (at in_degrees) source target ≡ method n (rows_in n starts columns weights) source target
-  unfolding method_among method degree_of over way_of if◌then◌else◌
+  unfolding method_among method degree_of over way_of if◌then◌otherwise◌
   method_is source target = go (ltb source n && ltb target n) refl
     where
       go : (b : Bool) → (ltb source n && ltb target n) ≡ b → method_among n (at out_degrees) (at in_degrees) source target ≡ method n (rows_in n starts columns weights) source target
@@ -116,7 +116,7 @@ module _ {n : ℕ} {starts columns reverse_starts reverse_columns : List ℕ} {w
 pub score_is : (m : Method) (u : Uses) (alpha : Float) (n source target : ℕ) (b f : State) {be br fe fr : List Float} → Follows u m
     → be ≡ where_used (uses_backward m) n b.estimate → br ≡ where_used (uses_backward m) n b.residual → fe ≡ where_used (uses_forward m) n f.estimate → fr ≡ where_used (uses_forward m) n f.residual
     → length be ≡ n → score_by u alpha source target be br fe fr ≡ answer_by m alpha n source target b f
-unfolding score_by answer_by uses_forward uses_backward score_at if◌then◌else◌
+unfolding score_by answer_by uses_forward uses_backward score_at if◌then◌otherwise◌
 score_is neither u alpha n source target b f w p q r s l = rw (w.forward_is, w.backward_is)
 score_is backward_alone u alpha n source target b f w p q r s l = rw (w.forward_is, w.backward_is, p)
 score_is forward_alone u alpha n source target b f w p q r s l = rw (w.forward_is, w.backward_is, r)

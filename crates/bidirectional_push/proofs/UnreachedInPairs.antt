@@ -11,7 +11,7 @@ use mathlib.Core.Path.{◌≡◌, refl, subst}
 use lib.ListN.{get_or-replicate}
 use lib.Ieee.{Float, nan}
 use Rattle.numbers.specs.Numbers.{+0}
-use Rattle.numbers.specs.Choice.{if◌then◌else◌}
+use Rattle.numbers.specs.Choice.{if◌then◌otherwise◌}
 use Rattle.numbers.proofs.Zeros.{part_finite}
 use Rattle.refusals.specs.Refusals.{◌or◌, refuse_settings}
 use Rattle.refusals.specs.Calls.{outcome_of, by_refusal}
@@ -40,7 +40,7 @@ NothingAt s v = Nothing (at s.estimate v) (at s.residual v)
 
 -- a vector of a pair, used or not, has +0 where that of its solve has
 still_zero : (used : Bool) (n : ℕ) (xs : List Float) (v : ℕ) → v < n → at xs v ≡ +0 → at (where_used used n xs) v ≡ +0
-unfolding if◌then◌else◌
+unfolding if◌then◌otherwise◌
 still_zero true n xs v l e = e
 still_zero false n xs v l e = get_or-replicate n v +0 nan l
 
@@ -109,7 +109,7 @@ module _ {B : Type 0} (g : Given Pairs B) (source target : ℕ) (sf sb : Setting
       -- what a method answers
       no_answer : (m : Method) → refuse_settings sb ≡ 0 → FiniteBelow g.nodes (pairs m).backward_estimate (pairs m).backward_residual
           → FiniteBelow g.nodes (pairs m).forward_estimate (pairs m).forward_residual → (joined g source target sf sb m).answer ≡ +0
-      unfolding joined answer_by pairs_by uses_forward uses_backward if◌then◌else◌
+      unfolding joined answer_by pairs_by uses_forward uses_backward if◌then◌otherwise◌
       no_answer neither ok b f = refl
       no_answer backward_alone ok b f = unconnected_score shown push_backward sb target source (λ l r. no_way source (record { node = source; listed = Memᴰ.head refl; below = l; leads = stay }) r)
       no_answer forward_alone ok b f = unconnected_score shown push_forward sf source target (λ l. off)

@@ -2,7 +2,7 @@
 use Rattle.std.specs.Prelude.{List, [], ◌∷◌, ◌≡◌, refl, Float}
 use Rattle.std.specs.Float.Ieee.{of_bits, add, mul}
 use Rattle.numbers.specs.Numbers.{f64, +0}
-use Rattle.numbers.specs.Choice.{if◌then◌else◌}
+use Rattle.numbers.specs.Choice.{if◌then◌otherwise◌}
 use Rattle.rules.specs.Rules.{State}
 use Rattle.rules.specs.Answers.{Method, neither, backward_alone, forward_alone, both, score_at, combined, answer_by}
 use Rattle.combination.specs.Methods.{uses_forward, uses_backward}
@@ -48,7 +48,7 @@ pub record Computed : Type 0 where
   pub left_by_both : pairs_by both 2 back front ≡ pairs front back
 
 pub computed : Computed
-unfolding if◌then◌else◌ uses_forward uses_backward pairs_by score_at combined answer_by of_bits add mul
+unfolding if◌then◌otherwise◌ uses_forward uses_backward pairs_by score_at combined answer_by of_bits add mul
 computed =
     record {
       of_neither = refl;

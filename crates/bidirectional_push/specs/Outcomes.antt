@@ -1,7 +1,7 @@
 -- The one outcome of each public call of the bidirectional solver. Assumes nothing.
 use Rattle.std.specs.Prelude.{ℕ, Bool, List, [], ◌∷◌, replicate, Float}
 use Rattle.numbers.specs.Numbers.{+0}
-use Rattle.numbers.specs.Choice.{if◌then◌else◌}
+use Rattle.numbers.specs.Choice.{if◌then◌otherwise◌}
 use Rattle.refusals.specs.Refusals.{◌or◌, refuse_settings}
 use Rattle.refusals.specs.Calls.{Outcome, outcome_of, by_refusal}
 use Rattle.refusals.specs.declared.Settings.{Settings}
@@ -16,7 +16,7 @@ use Rattle.bidirectional_push.specs.Lent.{Pairs}
 
 -- a vector of a pair that is used, among n nodes; one that is not is filled with +0
 abbrev pub where_used : Bool → ℕ → List Float → List Float
-where_used used n xs = if used then xs else replicate n +0
+where_used used n xs = if used then xs otherwise replicate n +0
 
 -- the two pairs, from the backward and the forward solve
 unfoldable pub pairs_by : Method → ℕ → State → State → Pairs

@@ -6,7 +6,7 @@ use mathlib.Core.Path.{◌≡◌, refl, ap, ◌∙◌}
 use lib.ListN.{length, get_or, replicate}
 use lib.Ieee.{Float, nan}
 use Rattle.numbers.specs.Numbers.{+0}
-use Rattle.numbers.specs.Choice.{if◌then◌else◌}
+use Rattle.numbers.specs.Choice.{if◌then◌otherwise◌}
 use Rattle.refusals.specs.Calls.{outcome_of}
 use Rattle.refusals.specs.declared.Settings.{Settings}
 use Rattle.graph.specs.Rows.{Entry, rows_in, degree, transposed}
@@ -28,7 +28,7 @@ pub record Directed (n : ℕ) (backward : Bool) (rows : List (List Entry)) (star
   pub rowed : Rowed n starts (chosen backward columns columns') (chosen backward weights weights')
   pub columns_alike : length columns' ≡ length columns
   pub weights_alike : length weights' ≡ length weights
-  pub rows_are : rows_in n starts (chosen backward columns columns') (chosen backward weights weights') ≡ (if backward then transposed n rows else rows)
+  pub rows_are : rows_in n starts (chosen backward columns columns') (chosen backward weights weights') ≡ (if backward then transposed n rows otherwise rows)
   pub degrees_are : degrees ≡ degrees_in n starts (chosen backward weights weights')
   pub out_degrees_long : length out_degrees ≡ n
   pub out_degrees_are : (v : ℕ) → v < n → at out_degrees v ≡ degree (row_at rows v)
@@ -45,7 +45,7 @@ module _ {n : ℕ} {starts columns : List ℕ} {weights out_degrees : List Float
 pub directed_forward : {n : ℕ} {starts columns columns' : List ℕ} {weights weights' out_degrees : List Float} → Rowed n starts columns weights → out_degrees ≡ degrees_in n starts weights
     → length columns' ≡ length columns → length weights' ≡ length weights
     → Directed n false (rows_in n starts columns weights) starts columns columns' weights weights' out_degrees out_degrees
-unfolding chosen if◌then◌else◌
+unfolding chosen if◌then◌otherwise◌
 directed_forward z e c w = record {
   rowed = z;
   columns_alike = c;

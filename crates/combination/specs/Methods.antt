@@ -1,7 +1,7 @@
 -- Which solves a method of `adaptive_solve` uses, the method of a call, and the score that the solves give. Assumes nothing.
 use Rattle.std.specs.Prelude.{ℕ, Bool, true, false, List, ◌≡◌, length, get_or, Float}
 use Rattle.numbers.specs.Numbers.{+0}
-use Rattle.numbers.specs.Choice.{if◌then◌else◌}
+use Rattle.numbers.specs.Choice.{if◌then◌otherwise◌}
 use Rattle.rules.specs.Answers.{combined, Method, neither, backward_alone, forward_alone, both}
 use Rattle.combination.specs.declared.Uses.{Uses}
 
@@ -21,7 +21,7 @@ uses_backward both = true
 
 -- the method of a call: the given one if the call is adaptive, where callers give the rules' `method`, and both solves if it is not
 abbrev pub method_for : Bool → Method → Method
-method_for adaptive m = if adaptive then m else both
+method_for adaptive m = if adaptive then m otherwise both
 
 -- which solves a method uses
 pub record Follows (u : Uses) (m : Method) : Type 0 where
@@ -33,4 +33,4 @@ pub record Follows (u : Uses) (m : Method) : Type 0 where
 -- `answer_by` gives by that method.
 unfoldable pub score_by : Uses → Float → ℕ → ℕ → List Float → List Float → List Float → List Float → Float
 score_by u alpha source target be br fe fr =
-    if u.forward then (if u.backward then combined alpha be br fe fr (length be) else get_or fe target +0) else (if u.backward then get_or be source +0 else +0)
+    if u.forward then (if u.backward then combined alpha be br fe fr (length be) otherwise get_or fe target +0) otherwise (if u.backward then get_or be source +0 otherwise +0)

@@ -1,6 +1,6 @@
 // Which solves a bidirectional or adaptive call uses, and the score that they give.
 ghost use Rattle.std.specs.Prelude.{◌≡◌, [], length};
-ghost use Rattle.numbers.specs.Choice.{if◌then◌else◌};
+ghost use Rattle.numbers.specs.Choice.{if◌then◌otherwise◌};
 ghost use Rattle.rules.specs.Rules.{at};
 ghost use Rattle.rules.specs.Answers.{method_among};
 ghost use Rattle.combination.specs.Methods.{method_for, Follows, score_by};
@@ -45,7 +45,7 @@ pub fn choose(
 
 // The list that a solve starts from where it is used, and an empty one where it is not.
 pub fn list_if_used(list: &[u32], used: bool) -> &[u32]
-    ensures { result.now ≡ (if used then list.now else []) }
+    ensures { result.now ≡ (if used then list.now otherwise []) }
 {
     if used {
         return list;

@@ -10,7 +10,7 @@ use lib.Dec.{eqb, ltb}
 use lib.ListN.{length, get_or, take, drop, length-drop}
 use lib.Seq.{drop-cons, drop-length, length-take-le, get_or-take, get_or-drop}
 use lib.Ieee.{Float, nan}
-use Rattle.numbers.specs.Choice.{if◌then◌else◌}
+use Rattle.numbers.specs.Choice.{if◌then◌otherwise◌}
 use Rattle.numbers.specs.Tables.{any}
 use Rattle.numbers.proofs.NoneOf.{none_at}
 use Rattle.graph.specs.Rows.{entries_of}
@@ -26,12 +26,12 @@ found_from t columns weights k = first_to t (entries_of (drop k columns) (drop k
 module _ (t : ℕ) (columns : List ℕ) (weights : List Float) (paired : length weights ≡ length columns) (k : ℕ) where
   -- a match at k
   pub matched : k < length columns → get_or columns k 0 ≡ t → found_from t columns weights k ≡ Present (get_or weights k nan)
-  unfolding first_to entries_of if◌then◌else◌
+  unfolding first_to entries_of if◌then◌otherwise◌
   matched h e = rw (drop-cons columns k 0 h, drop-cons weights k nan (rw paired h), eq-eqb _ _ e)
 
   -- no match at k
   pub passed : k < length columns → (get_or columns k 0 ≡ t → ⊥) → found_from t columns weights k ≡ found_from t columns weights (suc k)
-  unfolding first_to entries_of if◌then◌else◌
+  unfolding first_to entries_of if◌then◌otherwise◌
   passed h e = rw (drop-cons columns k 0 h, drop-cons weights k nan (rw paired h), ne_eqb _ _ e)
 
   -- the end of the row

@@ -10,7 +10,7 @@ use lib.Dec.{ltb}
 use lib.ListN.{length, get_or}
 use lib.Ieee.{Float}
 use Rattle.numbers.specs.Numbers.{+0}
-use Rattle.numbers.specs.Choice.{if◌then◌else◌}
+use Rattle.numbers.specs.Choice.{if◌then◌otherwise◌}
 use Rattle.graph.specs.Rows.{entries_of, rows_in}
 use Rattle.graph.specs.Store.{Rowed}
 use Rattle.graph.proofs.Handed.{row_inside, row_made}
@@ -23,7 +23,7 @@ use Rattle.edges.proofs.Searched.{no_row, in_row}
 
 -- no entry of a row leads past the row's nodes
 none_leads_past : (n t : ℕ) (columns : List ℕ) (weights : List Float) → n ≤ t → ((k : ℕ) → k < length columns → get_or columns k 0 < n) → first_to t (entries_of columns weights) ≡ Absent
-unfolding first_to entries_of if◌then◌else◌
+unfolding first_to entries_of if◌then◌otherwise◌
 none_leads_past n t [] weights h inside = refl
 none_leads_past n t (c ∷ columns) [] h inside = refl
 none_leads_past n t (c ∷ columns) (w ∷ weights) h inside =

@@ -5,7 +5,7 @@ use mathlib.Core.Bool.{Bool, true, false, ◌&&◌, cond}
 use mathlib.Core.List.{List, [], ◌∷◌, ◌++◌}
 use mathlib.Core.Path.{◌≡◌, refl, ap, ◌∙◌}
 use lib.Dec.{eqb}
-use Rattle.numbers.specs.Choice.{if◌then◌else◌}
+use Rattle.numbers.specs.Choice.{if◌then◌otherwise◌}
 use Rattle.numbers.specs.Tables.{only}
 use Rattle.graph.specs.Rows.{Link, Entry, entry, kept, gives, row_of, rows_of}
 use Rattle.graph.proofs.KeptRows.{rows_at}
@@ -13,8 +13,8 @@ use Rattle.edges.specs.Edges.{first_to, edge_in, joins, first, edge_among}
 
 -- a link before others, by whether it is kept and leads out of the first node, and whether it leads to the second
 one_more : (t : ℕ) (l : Link) (row : List Entry) (others : List Link) (leaves arrives : Bool) → eqb l.to t ≡ arrives → first_to t row ≡ first others
-    → first_to t (cond leaves (entry l.to l.weight ∷ []) [] ++ row) ≡ first (if leaves && arrives then l ∷ others else others)
-unfolding first_to first if◌then◌else◌
+    → first_to t (cond leaves (entry l.to l.weight ∷ []) [] ++ row) ≡ first (if leaves && arrives then l ∷ others otherwise others)
+unfolding first_to first if◌then◌otherwise◌
 one_more t l row others false arrives e h = h
 one_more t l row others true true e h = rw e
 one_more t l row others true false e h = rw e h

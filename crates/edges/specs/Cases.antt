@@ -3,7 +3,7 @@ use Rattle.std.specs.Prelude.{ℕ, true, false, List, [], ◌∷◌, map, ◌≡
 use Rattle.std.specs.Float.{nan}
 use Rattle.std.specs.Float.Ieee.{of_bits, le}
 use Rattle.numbers.specs.Numbers.{f64, +0, one}
-use Rattle.numbers.specs.Choice.{if◌then◌else◌}
+use Rattle.numbers.specs.Choice.{if◌then◌otherwise◌}
 use Rattle.numbers.specs.Tables.{tabulate, any, only}
 use Rattle.refusals.specs.Refusals.{◌or◌, ◌when◌, lengths_differ, falls, refuse_nodes, refuse_links, refuse_listed, refuse_lengths, refuse_rows, refuse_weights}
 use Rattle.refusals.specs.Calls.{by_refusal}
@@ -32,12 +32,12 @@ links = links_of (0 ∷ 1 ∷ 0 ∷ 2 ∷ 1 ∷ []) (1 ∷ 1 ∷ 1 ∷ 0 ∷ 3 �
 -- among three nodes: of two links the first; links of weight +0 and -0; not the other way; not to 3, which is out of range; not from 3
 among_three : map (λ (p : ℕ × ℕ). edge_among 3 p.0 p.1 links) ((0, 1) ∷ (1, 1) ∷ (2, 0) ∷ (1, 0) ∷ (0, 0) ∷ (1, 3) ∷ (3, 1) ∷ [])
     ≡ Present two ∷ Present +0 ∷ Present -0 ∷ Absent ∷ Absent ∷ Absent ∷ Absent ∷ []
-unfolding edge_among first only joins kept if◌then◌else◌ links
+unfolding edge_among first only joins kept if◌then◌otherwise◌ links
 among_three = refl
 
 -- among four nodes 3 is in range, and among one no link is kept
 among_others : edge_among 4 1 3 links ∷ edge_among 1 0 1 links ∷ [] ≡ Present one ∷ Absent ∷ []
-unfolding edge_among first only joins kept if◌then◌else◌ links
+unfolding edge_among first only joins kept if◌then◌otherwise◌ links
 among_others = refl
 
 -- ---- the calls
@@ -55,13 +55,13 @@ weights = two ∷ three ∷ +0 ∷ -0 ∷ []
 -- the weights of the same links
 weighed : map (λ (p : ℕ × ℕ). edge_weight 3 starts columns weights p.0 p.1) ((0, 1) ∷ (1, 1) ∷ (2, 0) ∷ (1, 0) ∷ (1, 3) ∷ (3, 1) ∷ [])
     ≡ weighed_of 0 true two ∷ weighed_of 0 true +0 ∷ weighed_of 0 true -0 ∷ weighed_of 0 false +0 ∷ weighed_of 0 false +0 ∷ weighed_of 0 false +0 ∷ []
-unfolding edge_weight asked weighed_by asked_refusal edge_in first_to rows_in row_in entries_of tabulate by_refusal refuse_nodes refuse_links refuse_listed refuse_lengths refuse_rows falls refuse_weights any lengths_differ ◌or◌ ◌when◌ if◌then◌else◌ le of_bits starts columns weights two three -0
+unfolding edge_weight asked weighed_by asked_refusal edge_in first_to rows_in row_in entries_of tabulate by_refusal refuse_nodes refuse_links refuse_listed refuse_lengths refuse_rows falls refuse_weights any lengths_differ ◌or◌ ◌when◌ if◌then◌otherwise◌ le of_bits starts columns weights two three -0
 weighed = refl
 
 -- and whether they are there
 found : map (λ (p : ℕ × ℕ). has_edge 3 starts columns weights p.0 p.1) ((0, 1) ∷ (1, 1) ∷ (2, 0) ∷ (1, 0) ∷ (1, 3) ∷ (3, 1) ∷ [])
     ≡ found_of 0 true ∷ found_of 0 true ∷ found_of 0 true ∷ found_of 0 false ∷ found_of 0 false ∷ found_of 0 false ∷ []
-unfolding has_edge asked found_by asked_refusal edge_in first_to rows_in row_in entries_of tabulate by_refusal refuse_nodes refuse_links refuse_listed refuse_lengths refuse_rows falls refuse_weights any lengths_differ ◌or◌ ◌when◌ if◌then◌else◌ le of_bits starts columns weights two three -0
+unfolding has_edge asked found_by asked_refusal edge_in first_to rows_in row_in entries_of tabulate by_refusal refuse_nodes refuse_links refuse_listed refuse_lengths refuse_rows falls refuse_weights any lengths_differ ◌or◌ ◌when◌ if◌then◌otherwise◌ le of_bits starts columns weights two three -0
 found = refl
 
 -- The whole rows are tested, whichever row is asked for: four starts are too few for four nodes, a start falls behind the row, a column is out of range, a weight is
@@ -72,10 +72,10 @@ refused : edge_weight 4 starts columns weights 0 1
     ∷ edge_weight 3 starts columns (two ∷ three ∷ +0 ∷ nan ∷ []) 0 1
     ∷ []
     ≡ weighed_of 3 false +0 ∷ weighed_of 4 false +0 ∷ weighed_of 4 false +0 ∷ weighed_of 5 false +0 ∷ []
-unfolding edge_weight asked weighed_by asked_refusal edge_in first_to rows_in row_in entries_of tabulate by_refusal refuse_nodes refuse_links refuse_listed refuse_lengths refuse_rows falls refuse_weights any lengths_differ ◌or◌ ◌when◌ if◌then◌else◌ le of_bits starts columns weights two three -0
+unfolding edge_weight asked weighed_by asked_refusal edge_in first_to rows_in row_in entries_of tabulate by_refusal refuse_nodes refuse_links refuse_listed refuse_lengths refuse_rows falls refuse_weights any lengths_differ ◌or◌ ◌when◌ if◌then◌otherwise◌ le of_bits starts columns weights two three -0
 refused = refl
 
 -- and so for `has_edge`
 refused_too : has_edge 3 starts columns (two ∷ three ∷ +0 ∷ nan ∷ []) 0 1 ≡ found_of 5 false
-unfolding has_edge asked found_by asked_refusal edge_in first_to rows_in row_in entries_of tabulate by_refusal refuse_nodes refuse_links refuse_listed refuse_lengths refuse_rows falls refuse_weights any lengths_differ ◌or◌ ◌when◌ if◌then◌else◌ le of_bits starts columns two three
+unfolding has_edge asked found_by asked_refusal edge_in first_to rows_in row_in entries_of tabulate by_refusal refuse_nodes refuse_links refuse_listed refuse_lengths refuse_rows falls refuse_weights any lengths_differ ◌or◌ ◌when◌ if◌then◌otherwise◌ le of_bits starts columns two three
 refused_too = refl

@@ -1,7 +1,7 @@
 -- The link between two nodes, said twice: by a search that ends at the first match in a row, and by reading every link of a list.
 -- `search_is_reading` (edges/proofs/Reading.antt) proves the two equal. Assumes nothing.
 use Rattle.std.specs.Prelude.{ℕ, Bool, ◌&&◌, List, [], ◌∷◌, get_or, eqb}
-use Rattle.numbers.specs.Choice.{if◌then◌else◌}
+use Rattle.numbers.specs.Choice.{if◌then◌otherwise◌}
 use Rattle.numbers.specs.Tables.{only}
 use Rattle.graph.specs.Rows.{Link, Entry, kept}
 use Rattle.edges.specs.declared.search.Edge.{Edge}
@@ -12,7 +12,7 @@ use Rattle.edges.specs.declared.search.Edge.TheVariants.{Absent, Present}
 -- the first entry of a row that leads to t, by its weight. A weight of zero counts as any other
 unfoldable pub first_to : ℕ → List Entry → Edge
 first_to t [] = Absent
-first_to t (x ∷ xs) = if eqb x.node t then Present x.weight else first_to t xs
+first_to t (x ∷ xs) = if eqb x.node t then Present x.weight otherwise first_to t xs
 
 -- the same of the row of f; a node out of range has no row
 unfoldable pub edge_in : ℕ → ℕ → List (List Entry) → Edge

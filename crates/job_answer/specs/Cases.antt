@@ -3,7 +3,7 @@ use Rattle.std.specs.Prelude.{ℕ, ◌^◌, List, [], ◌∷◌, ◌++◌, refl,
 use Rattle.std.proofs.Common.{arith, lit<, lit≤}
 use Rattle.std.specs.Float.Ieee.{odd, of_bits, to_bits, of_int, add, sub, mul, div, lt, le}
 use Rattle.numbers.specs.Numbers.{f64, +0}
-use Rattle.numbers.specs.Choice.{if◌then◌else◌}
+use Rattle.numbers.specs.Choice.{if◌then◌otherwise◌}
 use Rattle.numbers.specs.Tables.{tabulate, any}
 use Rattle.norm.specs.Norm.{add_squares}
 use Rattle.refusals.specs.Usual.{usual}
@@ -50,7 +50,7 @@ pub record Printed : Type 0 where
 
 -- the list holds
 pub printed : Printed
-unfolding chain_text if◌then◌else◌ tabulate how_many kept gives row_of rows_of links_of sum_from degree taken answer offered better best_from next usual adapted effective transition share_of way_of over degree_of each blank queued gain absorb threshold_after counted offer pass hand_out push stops goes_on due skips visit turn onward run inside watchable begun start enough solve any lengths_differ visited_count add_squares of_bits to_bits of_int add sub mul div lt le odd chain_job shaped number word_at float_at words_at floats_at settings_in job_in refusal end refused_or ◌or◌ ◌when◌ refuse_nodes refuse_links refuse_listed refuse_lengths refuse_weights refuse_alpha refuse_adaptive refuse_settings digit_count decimal bits refused_line done_line node_line node_lines
+unfolding chain_text if◌then◌otherwise◌ tabulate how_many kept gives row_of rows_of links_of sum_from degree taken answer offered better best_from next usual adapted effective transition share_of way_of over degree_of each blank queued gain absorb threshold_after counted offer pass hand_out push stops goes_on due skips visit turn onward run inside watchable begun start enough solve any lengths_differ visited_count add_squares of_bits to_bits of_int add sub mul div lt le odd chain_job shaped number word_at float_at words_at floats_at settings_in job_in refusal end refused_or ◌or◌ ◌when◌ refuse_nodes refuse_links refuse_listed refuse_lengths refuse_weights refuse_alpha refuse_adaptive refuse_settings digit_count decimal bits refused_line done_line node_line node_lines
 printed =
     record {
       chain =

@@ -11,7 +11,7 @@ use borrow.Author.Tests.{lt-ltb, le-ltb}
 use lib.Dec.{ltb}
 use lib.ListN.{length, length-append}
 use lib.Ieee.{Float, binary64, to_bits}
-use Rattle.numbers.specs.Choice.{if◌then◌else◌}
+use Rattle.numbers.specs.Choice.{if◌then◌otherwise◌}
 use Rattle.io.specs.Digits.{hex_digit_ascii, last_digits, IsDigitCount}
 use Rattle.job_text.specs.Text.{digit_count, decimal, bits, space, Grown}
 
@@ -27,7 +27,7 @@ fewest_few b least most n k p h bound f = go (dec_lt most k)
 
 -- counted up to one more than `most`
 pub fewest_digits : (most k n : ℕ) → k ≤ suc most → IsDigitCount 10 1 n k → k ≡ digit_count most n
-unfolding digit_count if◌then◌else◌
+unfolding digit_count if◌then◌otherwise◌
 fewest_digits most zero n h f = absurd (omega (arith, f.0))
 fewest_digits zero (suc k) n h f = omega arith
 fewest_digits (suc most) (suc zero) n h f = rw (lt-ltb n 10 f.1)
@@ -47,8 +47,8 @@ length_digits b zero n = refl
 length_digits b (suc k) n =
     length-append (last_digits b k (n / b)) (hex_digit_ascii (n % b) ∷ []) ∙ ap (λ (l : ℕ). l + 1) (length_digits b k (n / b)) ∙ add-one k
 
-either_few : (b : Bool) (most k : ℕ) → k ≤ most → (if b then 1 else suc k) ≤ suc most
-unfolding if◌then◌else◌
+either_few : (b : Bool) (most k : ℕ) → k ≤ most → (if b then 1 otherwise suc k) ≤ suc most
+unfolding if◌then◌otherwise◌
 either_few true most k h = omega arith
 either_few false most k h = omega arith
 

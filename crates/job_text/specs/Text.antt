@@ -3,14 +3,14 @@ use Rattle.std.specs.Prelude.{ℕ, zero, suc, ◌+◌, ◌/◌, List, [], ◌∷
 use Rattle.std.specs.Float.{binary64}
 use Rattle.std.specs.Float.Ieee.{to_bits}
 use Rattle.io.specs.Digits.{last_digits}
-use Rattle.numbers.specs.Choice.{if◌then◌else◌}
+use Rattle.numbers.specs.Choice.{if◌then◌otherwise◌}
 
 -- ---- numbers
 
 -- how many decimal digits n has, counted up to so many and one more
 unfoldable pub digit_count : ℕ → ℕ → ℕ
 digit_count zero n = 1
-digit_count (suc most) n = if ltb n 10 then 1 else suc (digit_count most (n / 10))
+digit_count (suc most) n = if ltb n 10 then 1 otherwise suc (digit_count most (n / 10))
 
 -- a whole number below 2 ^ 64, in decimal
 unfoldable pub decimal : ℕ → List ℕ

@@ -9,7 +9,7 @@ use borrow.Author.Tests.{ltb-true, ltb-false}
 use lib.Dec.{ltb}
 use lib.ListN.{length, get_or, set, replicate, length-set, get_or-eq_default}
 use lib.Seq.{ext_get_or, get_or-set_same, get_or-set_other}
-use Rattle.numbers.specs.Choice.{if◌then◌else◌}
+use Rattle.numbers.specs.Choice.{if◌then◌otherwise◌}
 use Rattle.numbers.specs.Tables.{tabulate}
 use Rattle.numbers.proofs.Choice.{decided}
 
@@ -28,7 +28,7 @@ module _ {A : Type 0} where
   get_or-tabulate (suc n) f (suc v) d h = get_or-tabulate n (λ k. f (suc k)) v d (le_of_suc-le-suc h)
 
   -- entry v, wherever v is
-  pub table_at : (n : ℕ) (f : ℕ → A) (v : ℕ) (d : A) → get_or (tabulate n f) v d ≡ (if ltb v n then f v else d)
+  pub table_at : (n : ℕ) (f : ℕ → A) (v : ℕ) (d : A) → get_or (tabulate n f) v d ≡ (if ltb v n then f v otherwise d)
   table_at n f v d =
       decided (λ x. get_or (tabulate n f) v d ≡ x) (ltb v n) (λ e. get_or-tabulate n f v d (ltb-true v n e))
       (λ e. get_or-eq_default (tabulate n f) d (rw length-tabulate (ltb-false v n e)))

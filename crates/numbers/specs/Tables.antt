@@ -1,6 +1,6 @@
 -- Lists that are given by a rule, a table of a function and a list made longer; and whether one of a list is of a kind, and which are. Assumes nothing.
 use Rattle.std.specs.Prelude.{ℕ, zero, suc, ◌-◌, Bool, false, ◌||◌, List, [], ◌∷◌, ◌++◌, ◌≡◌, refl, length, replicate, ltb}
-use Rattle.numbers.specs.Choice.{if◌then◌else◌}
+use Rattle.numbers.specs.Choice.{if◌then◌otherwise◌}
 
 -- f 0, f 1, .., f (n - 1)
 unfoldable pub tabulate : {A : Type 0} → ℕ → (ℕ → A) → List A
@@ -18,9 +18,9 @@ any p (x ∷ xs) = p x || any p xs
 
 -- those of a list that are of a kind, in their order
 unfoldable pub only : {A : Type 0} → (A → Bool) → List A → List A
-unfolding if◌then◌else◌
+unfolding if◌then◌otherwise◌
 only p [] = []
-only p (x ∷ xs) = if p x then x ∷ only p xs else only p xs
+only p (x ∷ xs) = if p x then x ∷ only p xs otherwise only p xs
 
 -- ---- examples
 

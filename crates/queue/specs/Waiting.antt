@@ -3,7 +3,7 @@
 use Rattle.std.specs.Prelude.{◌&&◌, List, [], ◌∷◌, ℕ, suc, get_or, set, ltb, Float}
 use Rattle.std.specs.Float.Ieee.{lt, le}
 use Rattle.numbers.specs.Numbers.{◌⊗◌}
-use Rattle.numbers.specs.Choice.{if◌then◌else◌}
+use Rattle.numbers.specs.Choice.{if◌then◌otherwise◌}
 use Rattle.refusals.specs.declared.Settings.{Settings}
 
 -- a node's slot: it is out of the queue, or it waits at a priority. A queue is a list of slots, one for each node
@@ -30,7 +30,7 @@ reached (waits p) = already_in
 
 -- a priority reaches the threshold where it is at least as high, which a NaN never is
 unfoldable pub answer : Float → Float → Slot → Answer
-answer threshold priority slot = if le threshold priority then reached slot else below_threshold
+answer threshold priority slot = if le threshold priority then reached slot otherwise below_threshold
 
 -- only an offer that enters changes a slot, so the priority of a node that waits is never refreshed
 abbrev pub answered : Answer → ℕ → Float → List Slot → List Slot
@@ -52,7 +52,7 @@ pub data Best : Type 0 where
 -- the better of one and a node with a higher number: that node, where its priority is at least as high. -0 and +0 are equally high
 unfoldable pub better : Best → ℕ → Float → Best
 better nobody v p = best v p
-better (best u q) v p = if le q p then best v p else best u q
+better (best u q) v p = if le q p then best v p otherwise best u q
 
 -- the better of one and all slots, of which the first is the node v's
 unfoldable pub best_from : Best → ℕ → List Slot → Best
@@ -71,4 +71,4 @@ next slots = best_from nobody 0 slots
 unfoldable pub adapted : Settings → ℕ → Float → Float
 adapted settings size threshold =
     if ltb settings.upper_size size then threshold ⊗ settings.raising_factor
-    else (if ltb size settings.lower_size && lt settings.threshold_floor threshold then threshold ⊗ settings.lowering_factor else threshold)
+    otherwise (if ltb size settings.lower_size && lt settings.threshold_floor threshold then threshold ⊗ settings.lowering_factor otherwise threshold)

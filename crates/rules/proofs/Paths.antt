@@ -8,7 +8,7 @@ use mathlib.Core.List.Memᴰ
 use mathlib.Core.List.{List, [], ◌∷◌, Memᴰ}
 use borrow.Author.Tests.{ltb-true}
 use lib.Dec.{ltb}
-use Rattle.numbers.specs.Choice.{if◌then◌else◌}
+use Rattle.numbers.specs.Choice.{if◌then◌otherwise◌}
 use Rattle.numbers.proofs.Choice.{decided, either}
 use Rattle.graph.specs.Rows.{Entry}
 use Rattle.rules.specs.Ways.{push_backward, way_of, over, row_at}
@@ -59,6 +59,6 @@ module _ (n : ℕ) (list : List ℕ) where
 
   -- and goes on to others
   pub connected_closed : (is_backward : Bool) (rows : List (List Entry)) → Closed (Connected is_backward (row_at rows) n list) (over is_backward n rows)
-  unfolding over way_of if◌then◌else◌
+  unfolding over way_of if◌then◌otherwise◌
   connected_closed false rows v r x m = record { node = r.node; listed = r.listed; below = r.below; leads = step r.leads m }
   connected_closed true rows t r x m = connected_before (transposed_mem n t rows x m) r

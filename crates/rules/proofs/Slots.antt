@@ -7,7 +7,7 @@ use mathlib.Core.List.{List, [], ◌∷◌}
 use mathlib.Core.Path.{◌≡◌, refl, ap}
 use lib.ListN.{length, get_or, set, replicate}
 use lib.Ieee.{Float, le}
-use Rattle.numbers.specs.Choice.{if◌then◌else◌}
+use Rattle.numbers.specs.Choice.{if◌then◌otherwise◌}
 use Rattle.queue.specs.Waiting.{Slot, out, waits, taken, below_threshold, reached, answer, answered, offered}
 use Rattle.queue.specs.Heap.{is_waiting}
 
@@ -40,10 +40,10 @@ taken_fewer (waits q ∷ slots) (suc v) p e = ap suc (taken_fewer slots v p e)
 -- an offer of a node that waits changes nothing, whatever the priority
 pub offered_waiting : (threshold : Float) (v : ℕ) (priority : Float) (slots : List Slot) → is_waiting (get_or slots v out) ≡ true
     → offered threshold v priority slots ≡ slots
-unfolding offered answer if◌then◌else◌
+unfolding offered answer if◌then◌otherwise◌
 offered_waiting threshold v priority slots e = go (le threshold priority) (get_or slots v out) e
   where
-    go : (b : Bool) (s : Slot) → is_waiting s ≡ true → answered (if b then reached s else below_threshold) v priority slots ≡ slots
+    go : (b : Bool) (s : Slot) → is_waiting s ≡ true → answered (if b then reached s otherwise below_threshold) v priority slots ≡ slots
     go true out h = absurd (false≢true h)
     go true (waits q) h = refl
     go false s h = refl

@@ -8,7 +8,7 @@ use lib.ListN.{set, replicate, get_or-replicate}
 use lib.IntN.{pos}
 use lib.Ieee.{nan, binary64, of_bits, of_int, add, div}
 use Rattle.numbers.specs.Numbers.{+0, one, ◌⊕◌, ◌⊘◌}
-use Rattle.numbers.specs.Choice.{if◌then◌else◌}
+use Rattle.numbers.specs.Choice.{if◌then◌otherwise◌}
 use Rattle.numbers.proofs.Choice.{either}
 use Rattle.refusals.specs.declared.Settings.{Settings}
 use Rattle.queue.specs.Waiting.{Best, nobody}
@@ -26,7 +26,7 @@ whole = refl
 module _ (way : Way) (settings : Settings) (watch : Watch) (n : ℕ) where
   -- one source has residual 1, and no other node has any, where the watched node, if there is one, is in range
   pub single_start : (v : ℕ) → v < n → watchable n watch ≡ true → (start way settings watch n (v ∷ [])).residual ≡ set (replicate n +0) v one
-  unfolding start begun inside each offer queued gain blank if◌then◌else◌
+  unfolding start begun inside each offer queued gain blank if◌then◌otherwise◌
   single_start v h e = rw (e, lt-ltb v n h, get_or-replicate n v +0 nan h, whole)
 
   -- a solve that begins nowhere: its list is empty, or all of it is out of range, or the watched node is

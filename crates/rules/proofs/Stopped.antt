@@ -14,7 +14,7 @@ use lib.Seq.{get_or-set_same, get_or-set_other}
 use lib.Ieee.{Float, nan, binary64, of_bits, is_nan, lt, le}
 use lib.Ieee.Bits.{of_bits-fits}
 use Rattle.numbers.specs.Numbers.{f64, +0, one, ◌⊗◌, ◌⊘◌}
-use Rattle.numbers.specs.Choice.{if◌then◌else◌}
+use Rattle.numbers.specs.Choice.{if◌then◌otherwise◌}
 use Rattle.numbers.proofs.Choice.{decided, either}
 use Rattle.numbers.proofs.Tests.{of_true, to_true, same_test, fails_right}
 use Rattle.numbers.proofs.Order.{lt-le, lt_not_le, le_transitive, le_reflexive}
@@ -134,14 +134,14 @@ module _ (way : Way) (settings : Settings) (steady : Steady settings) (n : ℕ) 
 
   -- nor is one that is offered: it waits, or the threshold turns it down
   offer_calm : (but : List ℕ) (u : ℕ) (s : State) → Calm (u ∷ but) s → Calm but (offer way u s)
-  unfolding offer offered answer queued if◌then◌else◌
+  unfolding offer offered answer queued if◌then◌otherwise◌
   offer_calm but u s h = by (le s.threshold priority) refl (get_or s.slots u out) refl
     where
       priority : Float
       priority = at s.residual u ⊘ effective_of way u
 
       by : (b : Bool) → le s.threshold priority ≡ b → (slot : Slot) → get_or s.slots u out ≡ slot
-          → Calm but (queued (answered (if b then reached slot else below_threshold) u priority s.slots) s)
+          → Calm but (queued (answered (if b then reached slot otherwise below_threshold) u priority s.slots) s)
       by true e out f =
           moved but u s _ ((spans n).in_push.on_queued (waits priority) u s tt h.long)
           (record { thresholds = refl; slots_same = λ v d. get_or-set_other s.slots u v _ out d; residual_same = λ v d. refl })
@@ -171,7 +171,7 @@ module _ (way : Way) (settings : Settings) (steady : Steady settings) (n : ℕ) 
   -- ---- a run
 
   counted_calm : (v : ℕ) (s : State) → Calm [] s → Calm [] (counted settings v s)
-  unfolding counted threshold_after if◌then◌else◌
+  unfolding counted threshold_after if◌then◌otherwise◌
   counted_calm v s h =
       record { long = (spans n).on_counted settings v s tt h.long; threshold_is = rw steady.adapts_not h.threshold_is; calm = h.calm }
 
@@ -211,7 +211,7 @@ module _ (way : Way) (settings : Settings) (steady : Steady settings) (n : ℕ) 
   -- A solve that watches nobody, and stops with a push left, leaves nothing due.
   pub nothing_due : (sources : List ℕ) → (solve way settings unwatched n sources).pushes < settings.max_pushes
       → NothingDue way settings n (solve way settings unwatched n sources).residual
-  unfolding solve due goes_on stops if◌then◌else◌
+  unfolding solve due goes_on stops if◌then◌otherwise◌
   nothing_due sources left v l =
       let s = solve way settings unwatched n sources in
       let e = solve_ends way settings unwatched n sources in

@@ -9,7 +9,7 @@ use mathlib.Core.List.Memᴰ
 use mathlib.Core.List.{List, [], ◌∷◌, ◌++◌, Memᴰ}
 use borrow.Author.Tests.{eqb-true}
 use lib.Dec.{ltb, eqb}
-use Rattle.numbers.specs.Choice.{if◌then◌else◌}
+use Rattle.numbers.specs.Choice.{if◌then◌otherwise◌}
 use Rattle.numbers.proofs.Tables.{table_at}
 use Rattle.numbers.proofs.Choice.{decided}
 use Rattle.graph.specs.Rows.{Entry, entry, into, into_from, transposed}
@@ -74,7 +74,7 @@ pub transposed_same : (n t : ℕ) (rows others : List (List Entry)) → ((u : �
     → row_at (transposed n rows) t ≡ row_at (transposed n others) t
 unfolding transposed
 transposed_same n t rows others e =
-    table_at n _ t [] ∙ ap (λ (l : List Entry). if ltb t n then l else []) (from_same t 0 rows others turned) ∙ sym (table_at n _ t [])
+    table_at n _ t [] ∙ ap (λ (l : List Entry). if ltb t n then l otherwise []) (from_same t 0 rows others turned) ∙ sym (table_at n _ t [])
   where
     turned : (u w : ℕ) → into t w (row_at rows u) ≡ into t w (row_at others u)
     turned u w =

@@ -5,7 +5,7 @@ use mathlib.Core.Bool.{Bool, true, false}
 use mathlib.Core.Logic.{◌⊎◌, inl, inr}
 use mathlib.Core.Path.{◌≡◌, refl, ap, subst, fun_ext}
 use mathlib.Core.List.{List}
-use Rattle.numbers.specs.Choice.{if◌then◌else◌}
+use Rattle.numbers.specs.Choice.{if◌then◌otherwise◌}
 use Rattle.refusals.specs.declared.Settings.{Settings}
 use Rattle.norm.specs.Norm.{Norm, add_squares}
 use Rattle.norm.proofs.Unique.{unique}
@@ -33,7 +33,7 @@ one_alike s t e =
 -- with the same links where they are connected, two ways agree there
 agree : (is_backward : Bool) (n : ℕ) (list : List ℕ) (rows others : List (List Entry)) → SameConnected is_backward (row_at rows) (row_at others) n list
     → Agree (Connected is_backward (row_at rows) n list) (over is_backward n rows) (over is_backward n others)
-unfolding over way_of share_of if◌then◌else◌
+unfolding over way_of share_of if◌then◌otherwise◌
 agree false n list rows others same = record { rows = same.links; shares = λ rest degree x r. refl }
 agree true n list rows others same =
     record { rows = λ t r. transposed_same n t rows others (entering t r); shares = λ rest degree x r. cc (same.links x.node r) }

@@ -9,7 +9,7 @@ use borrow.Author.Tests.{eqb-true, eq-eqb, ne_eqb}
 use lib.ListN.{length, get_or, set}
 use lib.Seq.{get_or-set_same, get_or-set_other}
 use lib.Dec.{eqb}
-use Rattle.numbers.specs.Choice.{if◌then◌else◌}
+use Rattle.numbers.specs.Choice.{if◌then◌otherwise◌}
 use Rattle.numbers.specs.Tables.{any}
 use Rattle.refusals.specs.declared.Settings.{Settings}
 use Rattle.marks.proofs.HowMany.{how_many_same}
@@ -63,12 +63,12 @@ logged_push n settings v s u t log l z c h =
 module _ (way : Way) (settings : Settings) (watch : Watch) (n : ℕ) where
   -- one turn, and what was pushed after it
   logged_turn : (v : ℕ) (s t : State) (log : List ℕ) → v < n → length s.visited ≡ n → Logged n (turn way settings v s) t log
-      → Logged n s t (if skips way settings v s then log else v ∷ log)
-  unfolding turn visit skips queued if◌then◌else◌
+      → Logged n s t (if skips way settings v s then log otherwise v ∷ log)
+  unfolding turn visit skips queued if◌then◌otherwise◌
   logged_turn v s t log l z = by (skips way settings v s)
     where
-      by : (b : Bool) → Logged n (if b then queued (set s.slots v out) s else counted settings v (push way settings.alpha v (queued (set s.slots v out) s))) t log
-          → Logged n s t (if b then log else v ∷ log)
+      by : (b : Bool) → Logged n (if b then queued (set s.slots v out) s otherwise counted settings v (push way settings.alpha v (queued (set s.slots v out) s))) t log
+          → Logged n s t (if b then log otherwise v ∷ log)
       by true h = record { count = h.count; below = h.below; marks = h.marks }
       by false h = logged_push n settings v s _ t log l z (push_uncounted way settings.alpha v s) h
 

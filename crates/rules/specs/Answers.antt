@@ -3,7 +3,7 @@
 use Rattle.std.specs.Prelude.{ℕ, zero, suc, false, ◌&&◌, List, length, get_or, ltb, Float}
 use Rattle.std.specs.Float.Ieee.{lt}
 use Rattle.numbers.specs.Numbers.{f64, +0, ◌⊕◌, ◌⊗◌}
-use Rattle.numbers.specs.Choice.{if◌then◌else◌}
+use Rattle.numbers.specs.Choice.{if◌then◌otherwise◌}
 use Rattle.numbers.specs.Tables.{tabulate}
 use Rattle.marks.specs.Marks.{how_many}
 use Rattle.graph.specs.Rows.{Entry}
@@ -44,11 +44,11 @@ pub data Method : Type 0 where
 unfoldable pub by_degrees : Float → Float → Method
 by_degrees outward inward =
     let two = f64 0x4000_0000_0000_0000 in
-    if lt (inward ⊗ two) outward then backward_alone else (if lt (outward ⊗ two) inward then forward_alone else both)
+    if lt (inward ⊗ two) outward then backward_alone otherwise (if lt (outward ⊗ two) inward then forward_alone otherwise both)
 
 -- by the out_degrees and in_degrees of n nodes; neither where a number is out of range
 unfoldable pub method_among : ℕ → (ℕ → Float) → (ℕ → Float) → ℕ → ℕ → Method
-method_among n outward inward source target = if ltb source n && ltb target n then by_degrees (outward source) (inward target) else neither
+method_among n outward inward source target = if ltb source n && ltb target n then by_degrees (outward source) (inward target) otherwise neither
 
 -- by those that the rows of n nodes give
 unfoldable pub method : ℕ → List (List Entry) → ℕ → ℕ → Method

@@ -5,7 +5,7 @@ use Rattle.std.proofs.Common.{lit<, lit≤}
 use Rattle.std.specs.Float.{nan, inf, fin, binary64}
 use Rattle.std.specs.Float.Ieee.{fits, odd, of_bits, of_int, add, sub, mul, div, lt, le}
 use Rattle.numbers.specs.Numbers.{f64, +0, one}
-use Rattle.numbers.specs.Choice.{if◌then◌else◌}
+use Rattle.numbers.specs.Choice.{if◌then◌otherwise◌}
 use Rattle.numbers.specs.Tables.{tabulate, any}
 use Rattle.refusals.specs.declared.Settings.{Settings}
 use Rattle.refusals.specs.Usual.{usual}
@@ -279,7 +279,7 @@ pub record Worked : Type 0 where
 
 -- the list holds
 pub worked : Worked
-unfolding if◌then◌else◌ tabulate how_many kept gives row_of rows_of sum_from degree into into_from transposed taken answer offered better best_from next usual adapted effective transition share_of way_of over degree_of each blank queued gain absorb threshold_after counted offer pass hand_out push stops goes_on due skips visit turn onward run inside watchable begun start enough solve still_due pushed distinct any visited_count score_at extrapolated combined by_degrees method_among method add_squares fits of_bits of_int add sub mul div lt le odd
+unfolding if◌then◌otherwise◌ tabulate how_many kept gives row_of rows_of sum_from degree into into_from transposed taken answer offered better best_from next usual adapted effective transition share_of way_of over degree_of each blank queued gain absorb threshold_after counted offer pass hand_out push stops goes_on due skips visit turn onward run inside watchable begun start enough solve still_due pushed distinct any visited_count score_at extrapolated combined by_degrees method_among method add_squares fits of_bits of_int add sub mul div lt le odd
 worked =
     record {
       chain_forward = refl;

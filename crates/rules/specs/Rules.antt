@@ -4,7 +4,7 @@ use Rattle.std.specs.Prelude.{ℕ, zero, suc, ◌+◌, ◌*◌, ◌%◌, Bool, t
 use Rattle.std.specs.Float.{nan, binary64}
 use Rattle.std.specs.Float.Ieee.{lt, le, of_int}
 use Rattle.numbers.specs.Numbers.{f64, +0, one, ◌⊕◌, ◌⊖◌, ◌⊗◌, ◌⊘◌}
-use Rattle.numbers.specs.Choice.{if◌then◌else◌}
+use Rattle.numbers.specs.Choice.{if◌then◌otherwise◌}
 use Rattle.refusals.specs.declared.Settings.{Settings}
 use Rattle.graph.specs.Rows.{Entry}
 use Rattle.queue.specs.Waiting.{Slot, out, taken, offered, Best, nobody, best, next, adapted}
@@ -77,7 +77,7 @@ absorb alpha v s =
 -- the threshold after so many pushes, at a size of the queue: in adaptive mode it adapts after every step
 unfoldable pub threshold_after : Settings → ℕ → ℕ → Float → Float
 threshold_after settings pushes size threshold =
-    if settings.adaptive_threshold && eqb (pushes % settings.adaptive_step) 0 then adapted settings size threshold else threshold
+    if settings.adaptive_threshold && eqb (pushes % settings.adaptive_step) 0 then adapted settings size threshold otherwise threshold
 
 -- a push of v is counted and v is marked, and the threshold may adapt
 unfoldable pub counted : Settings → ℕ → State → State
@@ -104,11 +104,11 @@ module _ (way : Way) where
 
   -- where the degree of v is above 0 the rest goes through the row; otherwise it is added back to v, and v is offered
   unfoldable pub hand_out : Float → ℕ → State → State
-  hand_out rest v s = if lt +0 (degree_of way v) then each (pass rest (degree_of way v)) (way.row v) s else offer v (gain rest v s)
+  hand_out rest v s = if lt +0 (degree_of way v) then each (pass rest (degree_of way v)) (way.row v) s otherwise offer v (gain rest v s)
 
   -- a push of v; where its residual is not above 0, nothing moves
   unfoldable pub push : Float → ℕ → State → State
-  push alpha v s = if le (at s.residual v) +0 then s else hand_out ((one ⊖ alpha) ⊗ at s.residual v) v (absorb alpha v s)
+  push alpha v s = if le (at s.residual v) +0 then s otherwise hand_out ((one ⊖ alpha) ⊗ at s.residual v) v (absorb alpha v s)
 
 -- ---- the loop
 
@@ -128,7 +128,7 @@ goes_on settings watch s = ltb s.pushes settings.max_pushes && not (stops watch 
 
 -- whose turn it is: the next of the queue, while the loop goes on
 unfoldable pub due : Settings → Watch → State → Best
-due settings watch s = if goes_on settings watch s then next s.slots else nobody
+due settings watch s = if goes_on settings watch s then next s.slots otherwise nobody
 
 -- whether v is skipped: its residual < epsilon × e
 unfoldable pub skips : Way → Settings → ℕ → State → Bool
@@ -136,7 +136,7 @@ skips way settings v s = lt (at s.residual v) (settings.epsilon ⊗ effective_of
 
 -- v is skipped without counting, or pushed, marked and counted
 unfoldable pub visit : Way → Settings → ℕ → State → State
-visit way settings v s = if skips way settings v s then s else counted settings v (push way settings.alpha v s)
+visit way settings v s = if skips way settings v s then s otherwise counted settings v (push way settings.alpha v s)
 
 -- v leaves the queue, and is visited
 unfoldable pub turn : Way → Settings → ℕ → State → State
@@ -159,7 +159,7 @@ unfoldable pub inside : ℕ → List ℕ → List ℕ
 inside n [] = []
 inside n (v ∷ vs) =
     let more = inside n vs in
-    if ltb v n then v ∷ more else more
+    if ltb v n then v ∷ more otherwise more
 
 -- whether the watched node is below n
 unfoldable pub watchable : ℕ → Watch → Bool
@@ -168,7 +168,7 @@ watchable n (watched v precision) = ltb v n
 
 -- the sources or targets that a solve begins at: none where the watched node is out of range
 unfoldable pub begun : ℕ → Watch → List ℕ → List ℕ
-begun n watch sources = if watchable n watch then inside n sources else []
+begun n watch sources = if watchable n watch then inside n sources otherwise []
 
 -- the state before the first turn: 1 over the length of the list is added at each entry that is in range, and then each of these is offered
 unfoldable pub start : Way → Settings → Watch → ℕ → List ℕ → State

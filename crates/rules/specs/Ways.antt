@@ -3,7 +3,7 @@
 use Rattle.std.specs.Prelude.{ℕ, Bool, true, false, List, [], get_or, Float}
 use Rattle.std.specs.Float.Ieee.{lt}
 use Rattle.numbers.specs.Numbers.{one, ◌⊗◌, ◌⊘◌}
-use Rattle.numbers.specs.Choice.{if◌then◌else◌}
+use Rattle.numbers.specs.Choice.{if◌then◌otherwise◌}
 use Rattle.graph.specs.Rows.{Link, Entry, rows_of, degree, transposed}
 
 -- ---- directions, degrees and shares
@@ -18,7 +18,7 @@ push_backward = true
 
 -- e: the degree where it is above 1, else 1
 unfoldable pub effective : Float → Float
-effective degree = if lt one degree then degree else one
+effective degree = if lt one degree then degree otherwise one
 
 -- the part of its mass that a node with this out-degree passes on by a link of this weight: the division of backward links
 unfoldable pub transition : Float → Float → Float
@@ -27,7 +27,7 @@ transition weight out = weight ⊘ effective out
 -- What an entry gets of the rest. Forward, the rest is multiplied by the weight first and divided by the degree of the row second. Backward, the
 -- weight is divided first, by the out-degree of the entry's own node, and then the rest is multiplied by it.
 unfoldable pub share_of : Bool → Float → Float → Float → Float → Float
-share_of is_backward rest degree weight out = if is_backward then rest ⊗ transition weight out else (rest ⊗ weight) ⊘ degree
+share_of is_backward rest degree weight out = if is_backward then rest ⊗ transition weight out otherwise (rest ⊗ weight) ⊘ degree
 
 -- ---- ways
 
@@ -46,7 +46,7 @@ row_at rows v = get_or rows v []
 
 -- the way of a direction over a graph of n nodes, by its rows: backward goes through the transposed ones
 unfoldable pub over : Bool → ℕ → List (List Entry) → Way
-over is_backward n rows = way_of is_backward (row_at (if is_backward then transposed n rows else rows)) (λ v. degree (row_at rows v))
+over is_backward n rows = way_of is_backward (row_at (if is_backward then transposed n rows otherwise rows)) (λ v. degree (row_at rows v))
 
 -- the same of a list of links
 abbrev pub over_links : Bool → ℕ → List Link → Way

@@ -4,7 +4,7 @@ use mathlib.Core.Bool.{Bool}
 use mathlib.Core.List.{List, []}
 use mathlib.Core.Path.{◌≡◌, sym, ap, ◌∙◌}
 use lib.ListN.{get_or}
-use Rattle.numbers.specs.Choice.{if◌then◌else◌}
+use Rattle.numbers.specs.Choice.{if◌then◌otherwise◌}
 use Rattle.graph.specs.Rows.{Entry, rows_in, degree, transposed}
 use Rattle.graph.specs.Store.{Rowed}
 use Rattle.graph.proofs.Read.{row_at_lem}
@@ -15,7 +15,7 @@ use Rattle.pushes.specs.Meant.{Stands}
 
 -- the lists of the direction hold its rows, and the out_degrees are those of the graph
 pub stands_over : (n : ℕ) (backward : Bool) (rows : List (List Entry)) (l : Lists) → Rowed n l.starts (columns_by backward l) (weights_by backward l)
-    → rows_in n l.starts (columns_by backward l) (weights_by backward l) ≡ (if backward then transposed n rows else rows)
+    → rows_in n l.starts (columns_by backward l) (weights_by backward l) ≡ (if backward then transposed n rows otherwise rows)
     → ((v : ℕ) → v < n → at l.out_degrees v ≡ degree (row_at rows v)) → Stands n backward l (over backward n rows)
 unfolding over way_of
 stands_over n backward rows l h e o =

@@ -8,7 +8,7 @@ use borrow.Author.Tests.{ltb-true, ltb-false}
 use lib.ListN.{length}
 use lib.Dec.{ltb}
 use lib.Ieee.{Float}
-use Rattle.numbers.specs.Choice.{if◌then◌else◌}
+use Rattle.numbers.specs.Choice.{if◌then◌otherwise◌}
 use Rattle.numbers.proofs.Tests.{both}
 use Rattle.refusals.specs.declared.Settings.{Settings}
 use Rattle.queue.specs.Waiting.{taken, nobody, best, next}
@@ -30,7 +30,7 @@ module _ (settings : Settings) (watch : Watch) (s : State) (size : ℕ) where
 
     -- it is the turn of who is next
     due_next : due settings watch s ≡ next s.slots
-    unfolding due if◌then◌else◌
+    unfolding due if◌then◌otherwise◌
     due_next = rw (both (goes_on settings watch s) (ltb 0 size) e).0
 
     -- which changes nothing in where the run ends, and lowers the measure
@@ -42,10 +42,10 @@ module _ (settings : Settings) (watch : Watch) (s : State) (size : ℕ) where
 
   -- the run does not go on: it ends here
   pub halts : goes_on settings watch s && ltb 0 size ≡ false → taken s.slots ≡ size → (way : Way) → s ≡ end way settings watch s
-  unfolding due if◌then◌else◌
+  unfolding due if◌then◌otherwise◌
   halts e k way = sym (end_stays way settings watch s (go (goes_on settings watch s) e))
     where
-      go : (b : Bool) → b && ltb 0 size ≡ false → (if b then next s.slots else nobody) ≡ nobody
+      go : (b : Bool) → b && ltb 0 size ≡ false → (if b then next s.slots otherwise nobody) ≡ nobody
       go false f = refl
       go true f = let z = ltb-false 0 size f in next_none s.slots (omega arith)
 

@@ -9,7 +9,7 @@ use lib.ListN.{length, get_or, drop}
 use lib.Seq.{drop-cons}
 use lib.Dec.{ltb}
 use lib.Ieee.{Float}
-use Rattle.numbers.specs.Choice.{if◌then◌else◌}
+use Rattle.numbers.specs.Choice.{if◌then◌otherwise◌}
 use Rattle.rules.specs.Ways.{Way}
 use Rattle.rules.specs.Rules.{State, each, inside, gain, offer}
 use Rattle.pushes.specs.States.{state_in, Pending, state_with}
@@ -20,10 +20,10 @@ use Rattle.pushes.specs.declared.Progress.{Progress}
 -- the first of the sources that are left
 pub one_more : (f : ℕ → State → State) (n : ℕ) (sources : List ℕ) (i : ℕ) → i < length sources → (s : State)
     → each f (inside n (drop i sources)) s ≡ each f (inside n (drop (i + 1) sources)) (each f (inside n (get_or sources i 0 ∷ [])) s)
-unfolding each inside if◌then◌else◌
+unfolding each inside if◌then◌otherwise◌
 one_more f n sources i h s = rw (add-one, drop-cons sources i 0 h) (go (get_or sources i 0) _ (ltb (get_or sources i 0) n))
   where
-    go : (v : ℕ) (more : List ℕ) (b : Bool) → each f (if b then v ∷ more else more) s ≡ each f more (each f (if b then v ∷ [] else []) s)
+    go : (v : ℕ) (more : List ℕ) (b : Bool) → each f (if b then v ∷ more otherwise more) s ≡ each f more (each f (if b then v ∷ [] otherwise []) s)
     go v more true = refl
     go v more false = refl
 

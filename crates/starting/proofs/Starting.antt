@@ -8,7 +8,7 @@ use lib.ListN.{length, replicate}
 use lib.IntN.{pos}
 use lib.Ieee.{Float, binary64, of_int}
 use Rattle.numbers.specs.Numbers.{+0, one, ◌⊘◌}
-use Rattle.numbers.specs.Choice.{if◌then◌else◌}
+use Rattle.numbers.specs.Choice.{if◌then◌otherwise◌}
 use Rattle.numbers.proofs.Tables.{tabulate_ext, tabulate_constant}
 use Rattle.refusals.specs.declared.Settings.{Settings}
 use Rattle.marks.proofs.Marking.{none_marked}
@@ -36,10 +36,10 @@ module _ (way : Way) (settings : Settings) (watch : Watch) (n : ℕ) (sources : 
   pub start_some : watchable n watch ≡ true
       → each (offer way) (inside n sources) (each (gain (one ⊘ of_int binary64 (pos (length sources)))) (inside n sources) (blank n settings.queue_threshold))
       ≡ start way settings watch n sources
-  unfolding start begun if◌then◌else◌
+  unfolding start begun if◌then◌otherwise◌
   start_some t = rw t
 
   -- nothing happens
   pub start_none : watchable n watch ≡ false → blank n settings.queue_threshold ≡ start way settings watch n sources
-  unfolding start begun each if◌then◌else◌
+  unfolding start begun each if◌then◌otherwise◌
   start_none t = rw t

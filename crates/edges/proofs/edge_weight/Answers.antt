@@ -1,5 +1,4 @@
 -- `edges::edge_weight` meets its contract: refused by what the tests say, or answered by what the search finds. Assumes nothing.
-use mathlib.Core.Path.{sym, ◌∙◌}
 use Rattle.edges.specs.Outcomes.{weighed_by, edge_weight}
 use Rattle.edges.proofs.Answered.{tested, asked_refused, asked_done}
 use Rattle.edges.proofs.edge_weight.Goals as goal

@@ -1,5 +1,4 @@
 -- `edges::has_edge` meets its contract: refused by what the tests say, or answered by what the search finds. Assumes nothing.
-use mathlib.Core.Path.{sym, ◌∙◌}
 use Rattle.edges.specs.Outcomes.{found_by, has_edge}
 use Rattle.edges.proofs.Answered.{tested, asked_refused, asked_done}
 use Rattle.edges.proofs.has_edge.Goals as goal

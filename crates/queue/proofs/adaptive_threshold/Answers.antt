@@ -6,7 +6,7 @@ use borrow.Author.Tests.{lt-ltb, le-ltb}
 use lib.Dec.{ltb}
 use lib.Ieee.{Float, lt}
 use Rattle.numbers.specs.Numbers.{◌⊗◌}
-use Rattle.numbers.specs.Choice.{if◌then◌else◌}
+use Rattle.numbers.specs.Choice.{if◌then◌otherwise◌}
 use Rattle.refusals.specs.declared.Settings.{Settings}
 use Rattle.queue.specs.Waiting.{adapted}
 use Rattle.queue.proofs.adaptive_threshold.Goals as goal
@@ -15,15 +15,15 @@ use Rattle.queue.proofs.adaptive_threshold.Goals.{else-size-settings-2-via-then-
 -- the definition's three cases
 module _ (settings : Settings) (size : ℕ) (threshold : Float) where
   raised : settings.upper_size < size → threshold ⊗ settings.raising_factor ≡ adapted settings size threshold
-  unfolding adapted if◌then◌else◌
+  unfolding adapted if◌then◌otherwise◌
   raised long = rw (lt-ltb _ _ long)
 
   lowered : size ≤ settings.upper_size → size < settings.lower_size → lt settings.threshold_floor threshold ≡ true → threshold ⊗ settings.lowering_factor ≡ adapted settings size threshold
-  unfolding adapted if◌then◌else◌
+  unfolding adapted if◌then◌otherwise◌
   lowered not-long short above = rw (le-ltb _ _ not-long, lt-ltb _ _ short, above)
 
   left : size ≤ settings.upper_size → ltb size settings.lower_size && lt settings.threshold_floor threshold ≡ false → threshold ≡ adapted settings size threshold
-  unfolding adapted if◌then◌else◌
+  unfolding adapted if◌then◌otherwise◌
   left not-long neither = rw (le-ltb _ _ not-long, neither)
 
 pub returns-then-size-settings : goal.returns-then-size-settings

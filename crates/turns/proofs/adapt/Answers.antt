@@ -4,7 +4,7 @@ use mathlib.Core.Bool.{true, false, ◌&&◌}
 use mathlib.Core.Path.{◌≡◌, refl, ◌∙◌}
 use lib.Dec.{eqb}
 use lib.Ieee.{Float}
-use Rattle.numbers.specs.Choice.{if◌then◌else◌}
+use Rattle.numbers.specs.Choice.{if◌then◌otherwise◌}
 use Rattle.refusals.specs.declared.Settings.{Settings}
 use Rattle.refusals.proofs.Laws.{step_above_zero}
 use Rattle.queue.specs.Waiting.{adapted}
@@ -14,11 +14,11 @@ use Rattle.turns.proofs.adapt.Goals as goal
 -- the definition's two cases
 module _ (settings : Settings) (pushes size : ℕ) (threshold : Float) where
   adapts : settings.adaptive_threshold && eqb (pushes % settings.adaptive_step) 0 ≡ true → adapted settings size threshold ≡ threshold_after settings pushes size threshold
-  unfolding threshold_after if◌then◌else◌
+  unfolding threshold_after if◌then◌otherwise◌
   adapts e = rw e
 
   stays : settings.adaptive_threshold && eqb (pushes % settings.adaptive_step) 0 ≡ false → threshold ≡ threshold_after settings pushes size threshold
-  unfolding threshold_after if◌then◌else◌
+  unfolding threshold_after if◌then◌otherwise◌
   stays e = rw e
 
 pub nonzero_rem-pushes : goal.nonzero_rem-pushes

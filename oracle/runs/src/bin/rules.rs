@@ -27,7 +27,7 @@ use Rattle.std.specs.Prelude.{ℕ, true, false, List, [], ◌∷◌, ◌≡◌, 
 use Rattle.std.proofs.Common.{ap, ◌∙◌, lit<, lit≤}
 use Rattle.std.specs.Float.Ieee.{odd, of_bits, of_int, add, sub, mul, div, lt, le}
 use Rattle.numbers.specs.Numbers.{f64}
-use Rattle.numbers.specs.Choice.{if◌then◌else◌}
+use Rattle.numbers.specs.Choice.{if◌then◌otherwise◌}
 use Rattle.numbers.specs.Tables.{tabulate}
 use Rattle.refusals.specs.declared.Settings.{Settings}
 use Rattle.norm.specs.Norm.{Norm, add_squares}
@@ -49,7 +49,7 @@ abbrev shown : State → Ending
 shown s = ending s.pushes (visited_count s) s.estimate s.residual
 ";
 
-const UNFOLDING: &str = "unfolding if◌then◌else◌ tabulate how_many kept gives row_of rows_of sum_from degree into into_from \
+const UNFOLDING: &str = "unfolding if◌then◌otherwise◌ tabulate how_many kept gives row_of rows_of sum_from degree into into_from \
 transposed taken answer offered better best_from next adapted effective transition share_of way_of over degree_of each \
 blank queued gain absorb threshold_after counted offer pass hand_out push stops goes_on due skips visit turn onward run \
 inside watchable begun start enough solve still_due visited_count score_at extrapolated combined by_degrees method_among method \

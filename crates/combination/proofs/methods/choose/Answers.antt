@@ -7,7 +7,7 @@ use lib.Dec.{ltb}
 use lib.Ieee.{lt}
 use borrow.Author.Tests.{ltb-true}
 use Rattle.numbers.specs.Numbers.{f64, ◌⊗◌}
-use Rattle.numbers.specs.Choice.{if◌then◌else◌}
+use Rattle.numbers.specs.Choice.{if◌then◌otherwise◌}
 use Rattle.numbers.proofs.Tests.{both as all}
 use Rattle.rules.specs.Rules.{at}
 use Rattle.rules.specs.Answers.{backward_alone, forward_alone, both, by_degrees, method_among}
@@ -15,8 +15,8 @@ use Rattle.combination.specs.Methods.{uses_forward, uses_backward, Follows}
 use Rattle.combination.proofs.methods.choose.Goals as goal
 
 -- what the two comparisons choose
-by-degrees : (b f : Bool) → Follows (record { forward = not b; backward = b || not f }) (if b then backward_alone else (if f then forward_alone else both))
-unfolding uses_forward uses_backward if◌then◌else◌
+by-degrees : (b f : Bool) → Follows (record { forward = not b; backward = b || not f }) (if b then backward_alone otherwise (if f then forward_alone otherwise both))
+unfolding uses_forward uses_backward if◌then◌otherwise◌
 by-degrees true f = record { forward_is = refl; backward_is = refl }
 by-degrees false true = record { forward_is = refl; backward_is = refl }
 by-degrees false false = record { forward_is = refl; backward_is = refl }
@@ -33,7 +33,7 @@ bounds-in_degrees-t c = let a = c.args in
     ltb-true a.target n (all (ltb a.source n) (ltb a.target n) c.if-s-n.true).1
 
 pub returns-then-s-n : goal.returns-then-s-n
-unfolding method_among by_degrees if◌then◌else◌
+unfolding method_among by_degrees if◌then◌otherwise◌
 returns-then-s-n c = let a = c.args in
     let inward = at a.in_degrees.now a.target in
     let outward = at a.out_degrees.now a.source in
@@ -41,9 +41,9 @@ returns-then-s-n c = let a = c.args in
     rw (c.if-adaptive.true, c.if-s-n.true) (by-degrees (lt (inward ⊗ two) outward) (lt (outward ⊗ two) inward))
 
 pub returns-then-adaptive : goal.returns-then-adaptive
-unfolding method_among if◌then◌else◌ uses_forward uses_backward
+unfolding method_among if◌then◌otherwise◌ uses_forward uses_backward
 returns-then-adaptive c = rw (c.if-adaptive.true, c.if-s-n.false) (record { forward_is = refl; backward_is = refl })
 
 pub returns : goal.returns
-unfolding if◌then◌else◌ uses_forward uses_backward
+unfolding if◌then◌otherwise◌ uses_forward uses_backward
 returns c = rw c.if-adaptive.false (record { forward_is = refl; backward_is = refl })

@@ -1,5 +1,5 @@
 -- `edges::search::any_is` meets its contract. Invariant: what was found, or is from i on, is what all columns have. Assumes nothing.
-use Prim.Native.Nat.{ℕ, ◌-◌, zero-le}
+use Prim.Native.Nat.{ℕ, zero-le}
 use mathlib.Core.Path.{refl}
 use native.Mathlib.Omega.{arith}
 use lib.Dec.{eqb}

@@ -1,5 +1,4 @@
 -- `edges::search::first_to` meets its contract. Invariant: what is found from here on is what is found from the row's first entry on. Assumes nothing.
-use Prim.Native.Nat.{◌-◌}
 use mathlib.Core.Path.{sym, ◌∙◌}
 use native.Mathlib.Numerals.{add-one}
 use native.Mathlib.Omega.{arith}

@@ -1,7 +1,7 @@
 -- `solve_bidirectional_rows` meets its contract: it is `checked_rows`, not adaptive. Assumes nothing.
-use Rattle.numbers.specs.Choice.{if◌then◌else◌}
+use Rattle.numbers.specs.Choice.{if◌then◌otherwise◌}
 use Rattle.solve_bidirectional.proofs.rows.solve_bidirectional_rows.Goals as goal
 
 pub returns : goal.returns
-unfolding if◌then◌else◌
+unfolding if◌then◌otherwise◌
 returns c = c.checked_rows.ensures.leaves
