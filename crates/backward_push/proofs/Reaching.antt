@@ -5,7 +5,7 @@ use mathlib.Core.Path.{◌≡◌, refl, sym, ap, ◌∙◌}
 use native.Mathlib.Omega.{arith}
 use lib.ListN.{length}
 use lib.Ieee.{Float}
-use Rattle.refusals.specs.Refusals.{◌or◌, refuse_settings}
+use Rattle.refusals.specs.Refusals.{refuse_settings}
 use Rattle.refusals.specs.Calls.{Outcome, outcome_of, by_refusal}
 use Rattle.refusals.specs.declared.Settings.{Settings}
 use Rattle.refusals.proofs.Laws.{Sized, number_zero, left_done}

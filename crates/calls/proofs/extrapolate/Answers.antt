@@ -1,5 +1,5 @@
 -- `calls::extrapolate` meets its contract. Invariant: the first v numbers are written (`over`). Assumes nothing.
-use Prim.Native.Nat.{◌-◌, ◌≤◌, ◌<◌, zero-le}
+use Prim.Native.Nat.{◌≤◌, ◌<◌, zero-le}
 use mathlib.Core.Path.{refl, sym, ◌∙◌}
 use native.Mathlib.Omega.{arith}
 use lib.ListN.{length, length-set}

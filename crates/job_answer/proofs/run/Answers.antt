@@ -1,7 +1,6 @@
 -- `job_answer::run` meets its contract: a wrong shape is refused, and any other job is run. Assumes nothing.
 use mathlib.Core.Path.{sym, ◌∙◌}
 use native.Mathlib.Omega.{arith}
-use borrow.Author.Tests.{not-true, not-false}
 use Rattle.job_text.proofs.Growing.{grown_counts}
 use Rattle.job_answer.proofs.Texts.{misshapen_writes, shaped_writes}
 use Rattle.job_answer.proofs.run.Goals as goal

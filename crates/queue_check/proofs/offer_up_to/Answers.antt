@@ -1,5 +1,5 @@
 -- `queue_check::offer_up_to` keeps the buffers ready. The invariant says so, and that the marks are as long as they were. Assumes nothing.
-use Rattle.std.proofs.Common.{◌-◌, arith}
+use Rattle.std.proofs.Common.{arith}
 use Rattle.queue_check.proofs.offer_up_to.Goals as goal
 
 pub loop-v-preserved : goal.loop-v-preserved

@@ -1,5 +1,5 @@
 -- `queue_check::replay` keeps the buffers ready. The invariant says so, and that the marks are as long as they were. Assumes nothing.
-use Rattle.std.proofs.Common.{◌-◌, ap, arith}
+use Rattle.std.proofs.Common.{ap, arith}
 use Rattle.queue.specs.declared.WorkQueue.{WorkQueue}
 use Rattle.queue_check.proofs.replay.Goals as goal
 

@@ -1,5 +1,5 @@
 -- `queue_check::replay_all` is safe and ends. The invariant: the buffers are ready, and the marks as long as they were. Assumes nothing.
-use Rattle.std.proofs.Common.{◌-◌, arith}
+use Rattle.std.proofs.Common.{arith}
 use Rattle.queue_check.proofs.replay_all.Goals as goal
 
 pub loop-reads-init : goal.loop-reads-init
