@@ -36,7 +36,7 @@ directed_backward z t c w = record {
   out_degrees_are = sums_are z t.out_degrees_are;
 }
 
--- what a solve leaves, with the reverse rows and the out_degrees cleared
+-- what a solve leaves, with the reverse rows and the out-degrees cleared
 pub back_left : (n m : ℕ) (s : State) {r : Counted} {b : SolveLent} {reverse_starts reverse_columns : List ℕ} {reverse_weights out_degrees : List Float}
     → outcome_of r b ≡ outcome_of (counted_in s) (solve_done n s.estimate s.residual) → reverse_starts ≡ replicate (n + 1) 0 → reverse_columns ≡ replicate m 0
     → reverse_weights ≡ replicate m +0 → out_degrees ≡ replicate n +0

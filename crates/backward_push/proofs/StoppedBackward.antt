@@ -1,5 +1,5 @@
 -- The statement for the stop, of each backward solve that watches nobody: with settings that it is about, if the call answers 0 and a push count below
--- max_pushes, then nothing is still due at what it leaves as the residual, by the in_degrees. Assumes nothing.
+-- max_pushes, then nothing is still due at what it leaves as the residual, by the in-degrees. Assumes nothing.
 use Prim.Native.Nat.{ℕ, ◌<◌}
 use mathlib.Core.List.{List, [], ◌∷◌}
 use mathlib.Core.Path.{◌≡◌}

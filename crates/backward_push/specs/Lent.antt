@@ -6,7 +6,7 @@ use Rattle.calls.specs.Lent.{Lending, SolveLent, solve_lengths, solve_done}
 
 -- ---- a backward solve
 
--- workspace for reverse rows and out_degrees; the solve's own degrees are the in_degrees
+-- workspace for reverse rows and out-degrees; the solve's own degrees are the in-degrees
 pub record BackLent : Type 0 where
   pub reverse_starts : List ℕ
   pub reverse_columns : List ℕ

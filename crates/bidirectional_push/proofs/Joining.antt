@@ -95,7 +95,7 @@ module _ {n : ℕ} {is_backward : Bool} {rows : List (List Entry)} {starts colum
 
 module _ {n : ℕ} {starts columns reverse_starts reverse_columns : List ℕ} {weights reverse_weights in_degrees out_degrees : List Float} (rowed : Rowed n starts columns weights)
     (t : Reversed n starts columns weights reverse_starts reverse_columns reverse_weights in_degrees out_degrees) where
-  -- the in_degrees are the sums of the rows reversed
+  -- the in-degrees are the sums of the rows reversed
   inward_is : (v : ℕ) → v < n → at in_degrees v ≡ degree (row_at (transposed n (rows_in n starts columns weights)) v)
   inward_is v l = sums_are (held_rowed t.reversed) t.in_degrees_are v l ∙ ap (λ (rs : List (List Entry)). degree (row_at rs v)) (held_rows t.reversed)
 

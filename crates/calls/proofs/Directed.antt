@@ -23,7 +23,7 @@ use Rattle.calls.specs.Promises.{Fits, SolveSettled, counted_in}
 use Rattle.calls.proofs.Degrees.{degree_at}
 use Rattle.calls.proofs.Leaving.{settled_left}
 
--- the buffers hold the rows of the direction, their degrees, and the out_degrees of the graph
+-- the buffers hold the rows of the direction, their degrees, and the out-degrees of the graph
 pub record Directed (n : ℕ) (backward : Bool) (rows : List (List Entry)) (starts columns columns' : List ℕ) (weights weights' degrees out_degrees : List Float) : Type 0 where
   pub rowed : Rowed n starts (chosen backward columns columns') (chosen backward weights weights')
   pub columns_alike : length columns' ≡ length columns
@@ -41,7 +41,7 @@ module _ {n : ℕ} {starts columns : List ℕ} {weights out_degrees : List Float
   pub sums_are : (v : ℕ) → v < n → at out_degrees v ≡ degree (row_at (rows_in n starts columns weights) v)
   sums_are v l = ap (λ (ds : List Float). get_or ds v nan) sums ∙ degree_at rowed v l
 
--- forward, the rows are those of the graph, and the degrees are the out_degrees
+-- forward, the rows are those of the graph, and the degrees are the out-degrees
 pub directed_forward : {n : ℕ} {starts columns columns' : List ℕ} {weights weights' out_degrees : List Float} → Rowed n starts columns weights → out_degrees ≡ degrees_in n starts weights
     → length columns' ≡ length columns → length weights' ≡ length weights
     → Directed n false (rows_in n starts columns weights) starts columns columns' weights weights' out_degrees out_degrees

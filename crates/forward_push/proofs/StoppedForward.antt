@@ -1,5 +1,5 @@
 -- The statement for the stop, of each forward solve that watches nobody: with settings that it is about, if the call answers 0 and a push count below
--- max_pushes, then nothing is still due at what it leaves as the residual, by the out_degrees. Assumes nothing.
+-- max_pushes, then nothing is still due at what it leaves as the residual, by the out-degrees. Assumes nothing.
 use Prim.Native.Nat.{ℕ, ◌<◌}
 use mathlib.Core.List.{List, [], ◌∷◌}
 use mathlib.Core.Path.{◌≡◌}

@@ -25,7 +25,7 @@ pub record Row (n : ℕ) (columns : List ℕ) (weights out_degrees : List Float)
   pub out_degrees_long : length out_degrees ≡ n
   pub inside : (k : ℕ) → k < length columns → get_or columns k 0 < n
 
--- what a solve reads: the rows of a direction in one of two pairs of lists, their degrees, and the out_degrees
+-- what a solve reads: the rows of a direction in one of two pairs of lists, their degrees, and the out-degrees
 pub record Lists : Type 0 where
   pub starts : List ℕ
   pub columns : List ℕ

@@ -18,7 +18,7 @@ Weighs degrees v way = at degrees v ≡ degree_of way v
 abbrev pub Weighing : List Float → Way → Type 0
 Weighing degrees way = (v : ℕ) → v < length degrees → Weighs degrees v way
 
--- those whose shares go by these out_degrees
+-- those whose shares go by these out-degrees
 abbrev pub Shares : ℕ → Bool → List Float → Way → Type 0
 Shares n backward out_degrees way = (rest degree : Float) (x : Entry) → x.node < n → way.share rest degree x ≡ share_of backward rest degree x.weight (at out_degrees x.node)
 

@@ -1,5 +1,4 @@
 // The tests of the public calls: which number a call is refused with.
-
 #![tactic(auto)]
 
 ghost use Rattle.std.specs.Prelude.{◌≡◌, length, get_or, leb};

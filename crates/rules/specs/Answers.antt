@@ -46,7 +46,7 @@ by_degrees outward inward =
     let two = f64 0x4000_0000_0000_0000 in
     if lt (inward ⊗ two) outward then backward_alone otherwise (if lt (outward ⊗ two) inward then forward_alone otherwise both)
 
--- by the out_degrees and in_degrees of n nodes; neither where a number is out of range
+-- by the out-degrees and in-degrees of n nodes; neither where a number is out of range
 unfoldable pub method_among : ℕ → (ℕ → Float) → (ℕ → Float) → ℕ → ℕ → Method
 method_among n outward inward source target = if ltb source n && ltb target n then by_degrees (outward source) (inward target) otherwise neither
 

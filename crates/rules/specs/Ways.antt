@@ -36,7 +36,7 @@ pub record Way : Type 0 where
   pub row : ℕ → List Entry
   pub share : Float → Float → Entry → Float
 
--- the way of a direction, by the rows that are gone through and the nodes' out_degrees
+-- the way of a direction, by the rows that are gone through and the nodes' out-degrees
 unfoldable pub way_of : Bool → (ℕ → List Entry) → (ℕ → Float) → Way
 way_of is_backward row out = record { row = row; share = λ rest degree x. share_of is_backward rest degree x.weight (out x.node) }
 

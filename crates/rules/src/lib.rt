@@ -1,3 +1,2 @@
-#![tactic(auto)]
-
 // The push rules are definitions and theorems alone: see specs/ and proofs/.
+#![tactic(auto)]

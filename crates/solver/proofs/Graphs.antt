@@ -13,7 +13,7 @@ use Rattle.rules.specs.Rules.{at}
 use Rattle.pushes.specs.Buffers.{Lists, columns_by, weights_by}
 use Rattle.pushes.specs.Meant.{Stands}
 
--- the lists of the direction hold its rows, and the out_degrees are those of the graph
+-- the lists of the direction hold its rows, and the out-degrees are those of the graph
 pub stands_over : (n : ℕ) (backward : Bool) (rows : List (List Entry)) (l : Lists) → Rowed n l.starts (columns_by backward l) (weights_by backward l)
     → rows_in n l.starts (columns_by backward l) (weights_by backward l) ≡ (if backward then transposed n rows otherwise rows)
     → ((v : ℕ) → v < n → at l.out_degrees v ≡ degree (row_at rows v)) → Stands n backward l (over backward n rows)

@@ -87,7 +87,7 @@ fn run<'a>(
 }
 
 // A whole solve, whatever the buffers held. The starts and the degrees are those of the direction,
-// and `out_degrees` are the out_degrees. Forward reads no reverse list: lend the others twice.
+// and `out_degrees` are the out-degrees. Forward reads no reverse list: lend the others twice.
 pub fn solve<'a>(
     settings: Settings,
     backward: bool,
