@@ -12,7 +12,7 @@ use Rattle.refusals.proofs.Laws.{Sized, number_zero, left_done}
 use Rattle.rules.specs.Ways.{push_backward}
 use Rattle.rules.specs.Rules.{State, unwatched}
 use Rattle.rules.specs.Answers.{extrapolated}
-use Rattle.calls.specs.declared.Counted.{Counted}
+use Rattle.calls.specs.Lent.{Counted}
 use Rattle.calls.specs.Lent.{Lending, besides, LinksLent, links_lent, links_done}
 use Rattle.calls.specs.Outcomes.{Given, given_rows, given_links, ends, unmeasured}
 use Rattle.calls.specs.Promises.{Checks}

@@ -13,7 +13,7 @@ use Rattle.graph.specs.Rows.{Entry, rows_in}
 use Rattle.graph.specs.Store.{chosen, Rowed, Buffers, RowBuffers, Compressed}
 use Rattle.graph.proofs.Back.{held_rowed, held_rows}
 use Rattle.rules.specs.Rules.{State}
-use Rattle.calls.specs.declared.Counted.{Counted}
+use Rattle.calls.specs.Lent.{Counted}
 use Rattle.calls.specs.Lent.{SolveLent, solve_done}
 use Rattle.calls.specs.Promises.{counted_in}
 use Rattle.calls.proofs.Vectors.{Vectors, done_estimate, done_residual}

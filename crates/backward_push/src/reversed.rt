@@ -50,9 +50,9 @@ pub fn clear(
         × (in_degrees.new ≡ replicate (length in_degrees.old) +0)
         × (out_degrees.new ≡ replicate (length out_degrees.old) +0) }
 {
-    numbers::clear(reverse_starts);
-    numbers::clear(reverse_columns);
-    numbers::clear_floats(reverse_weights);
-    numbers::clear_floats(in_degrees);
-    numbers::clear_floats(out_degrees);
+    reverse_starts.fill(0);
+    reverse_columns.fill(0);
+    reverse_weights.fill(0.0);
+    in_degrees.fill(0.0);
+    out_degrees.fill(0.0);
 }

@@ -5,15 +5,15 @@ ghost use Rattle.refusals.specs.Refusals.{Sound};
 ghost use Rattle.graph.specs.Store.{RowBuffers};
 ghost use Rattle.rules.specs.Ways.{push_backward};
 ghost use Rattle.watching.specs.Watching.{watch_in};
-ghost use Rattle.calls.specs.Lent.{solve_lent};
+ghost use Rattle.calls.specs.Lent.{solve_lent, done_counts};
 ghost use Rattle.calls.specs.Outcomes.{given_rows};
 ghost use Rattle.calls.specs.Promises.{Fits, Settles};
 ghost use Rattle.backward_push.specs.Lent.{back_lent, reversing};
 
 use crate::reversed;
-use calls::Counted;
+use calls::Counts;
 use refusals::Settings;
-use watching::Watch;
+use watching::Watched;
 
 // A backward solve of rows. The queue's nodes serve as positions while the rows are reversed.
 pub fn solve_rows<'a>(
@@ -22,7 +22,7 @@ pub fn solve_rows<'a>(
     columns: &'a [u32],
     weights: &'a [f64],
     targets: &[u32],
-    watch: Watch,
+    watch: Option<Watched>,
     settings: Settings,
     estimate: &mut [f64],
     residual: &mut [f64],
@@ -35,7 +35,7 @@ pub fn solve_rows<'a>(
     nodes: &mut [u32],
     queued: &mut [u64],
     visited: &mut [u64],
-) -> Counted
+) -> Counts
     requires { RowBuffers n starts.now columns.now weights.now reverse_starts.old reverse_columns.old reverse_weights.old nodes.old
         × (length out_degrees.old ≡ n)
         × Fits n targets.now (solve_lent estimate.old residual.old in_degrees.old priorities.old nodes.old queued.old visited.old) × Sound settings }
@@ -43,7 +43,7 @@ pub fn solve_rows<'a>(
         (back_lent reverse_starts.old reverse_columns.old reverse_weights.old out_degrees.old
         (solve_lent estimate.old residual.old in_degrees.old priorities.old nodes.old queued.old visited.old)))
         settings (watch_in watch) targets.now
-        (outcome_of result (back_lent reverse_starts.new reverse_columns.new reverse_weights.new out_degrees.new
+        (outcome_of (done_counts result) (back_lent reverse_starts.new reverse_columns.new reverse_weights.new out_degrees.new
         (solve_lent estimate.new residual.new in_degrees.new priorities.new nodes.new queued.new visited.new))) }
 {
     reversed::reverse(

@@ -14,7 +14,9 @@ use Rattle.numbers.proofs.Tests.{both as all}
 use Rattle.refusals.specs.Refusals.{◌or◌, refuse_settings}
 use Rattle.refusals.specs.Calls.{Outcome, outcome_of}
 use Rattle.refusals.specs.declared.Settings.{Settings}
-use Rattle.refusals.proofs.Laws.{refused, accepted}
+use Rattle.refusals.specs.declared.refusal.Refusal.{Refusal}
+use Rattle.refusals.specs.Answered.{number_of}
+use Rattle.refusals.proofs.Laws.{refused_for, accepted}
 use Rattle.graph.specs.Rows.{Entry, links_of, rows_of, rows_in, degree, transposed}
 use Rattle.graph.specs.Store.{Rowed, Compressed}
 use Rattle.graph.proofs.Back.{held_rowed, held_rows}
@@ -25,7 +27,7 @@ use Rattle.rules.proofs.Starts.{solve_nothing}
 use Rattle.pushes.specs.Buffers.{lists_of}
 use Rattle.pushes.specs.Meant.{Stands}
 use Rattle.solver.proofs.Graphs.{stands_over}
-use Rattle.calls.specs.declared.Counted.{Counted}
+use Rattle.calls.specs.Lent.{Counted}
 use Rattle.calls.specs.Lent.{scored_of, words, solve_lent, solve_done, LinksLent, links_lent}
 use Rattle.calls.specs.Outcomes.{Given, given_rows, given_links, ends}
 use Rattle.calls.specs.Promises.{SolveSettled}
@@ -167,12 +169,14 @@ links_joined n source target adaptive from to weight l sf sb b h e d s c w =
 
 -- ---- refused or done
 
-module _ {B : Type 0} (adaptive : Bool) (g : Given Pairs B) (source target : ℕ) (sf sb : Settings) {r : ℕ} (e : r ≡ g.tests 0 or refuse_settings sf or refuse_settings sb) where
-  pub answer_refused : (r ≡ 0 → ⊥) → ChecksBoth adaptive g source target sf sb (outcome_of (scored_of r +0) g.before)
+module _ {B : Type 0} (adaptive : Bool) (g : Given Pairs B) (source target : ℕ) (sf sb : Settings) where
+  pub answer_refused_for : (e : Refusal) → number_of e ≡ g.tests 0 or refuse_settings sf or refuse_settings sb
+      → ChecksBoth adaptive g source target sf sb (outcome_of (scored_of (number_of e) +0) g.before)
   unfolding by_solves
-  answer_refused h = record { leaves = refused (λ k. scored_of k +0) g.before _ _ e h }
+  answer_refused_for e h = record { leaves = refused_for (λ k. scored_of k +0) g.before _ e _ h }
 
-  pub answer_done : r ≡ 0 → {x : Float} {b : B} → Joins adaptive g source target sf sb (outcome_of x b) → ChecksBoth adaptive g source target sf sb (outcome_of (scored_of 0 x) b)
+  pub answer_done : 0 ≡ g.tests 0 or refuse_settings sf or refuse_settings sb → {x : Float} {b : B} → Joins adaptive g source target sf sb (outcome_of x b)
+      → ChecksBoth adaptive g source target sf sb (outcome_of (scored_of 0 x) b)
   unfolding by_solves
   answer_done h d =
-      record { leaves = accepted (λ k. scored_of k +0) g.before _ _ e h (ap (λ (x : Outcome Float B). outcome_of (scored_of 0 x.answer) x.lent) d.leaves) }
+      record { leaves = accepted (λ k. scored_of k +0) g.before _ _ h refl (ap (λ (x : Outcome Float B). outcome_of (scored_of 0 x.answer) x.lent) d.leaves) }

@@ -13,7 +13,6 @@ ghost use Rattle.bidirectional_push.specs.Promises.{Joins};
 use backward_push::reversed;
 use combination::methods;
 use refusals::Settings;
-use watching::Watch;
 
 // The solves of rows that a method uses, and the score. One that is not used starts nowhere, which fills its vectors with
 // +0. The queue's nodes serve as positions while the rows are reversed.
@@ -70,7 +69,7 @@ pub fn solve_rows<'a>(
     calls::solve_settled(
         forward_settings,
         false,
-        Watch::Nobody,
+        None,
         methods::list_if_used(&sources, uses.forward),
         starts,
         columns,
@@ -89,7 +88,7 @@ pub fn solve_rows<'a>(
     calls::solve_settled(
         backward_settings,
         true,
-        Watch::Nobody,
+        None,
         methods::list_if_used(&targets, uses.backward),
         reverse_starts,
         columns,

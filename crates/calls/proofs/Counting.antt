@@ -10,8 +10,7 @@ use Rattle.numbers.proofs.Tables.{length-tabulate, get_or-tabulate}
 use Rattle.marks.specs.Marks.{marked, how_many}
 use Rattle.marks.proofs.HowMany.{how_many_same, how_many_none}
 use Rattle.rules.specs.Answers.{visited_count}
-use Rattle.pushes.specs.States.{marks_in, state_in, NoneBeyond}
-use Rattle.pushes.specs.declared.Progress.{Progress}
+use Rattle.pushes.specs.States.{Progress, marks_in, state_in, NoneBeyond}
 use Rattle.calls.specs.Lent.{words, counted_of}
 use Rattle.calls.specs.Promises.{counted_in}
 

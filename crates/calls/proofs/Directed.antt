@@ -17,7 +17,7 @@ use Rattle.rules.specs.Rules.{Watch, solve, at}
 use Rattle.pushes.specs.Buffers.{lists_of, Rows}
 use Rattle.pushes.specs.Meant.{Stands}
 use Rattle.solver.proofs.Graphs.{stands_over}
-use Rattle.calls.specs.declared.Counted.{Counted}
+use Rattle.calls.specs.Lent.{Counted}
 use Rattle.calls.specs.Lent.{solve_lent, solve_done}
 use Rattle.calls.specs.Promises.{Fits, SolveSettled, counted_in}
 use Rattle.calls.proofs.Degrees.{degree_at}

@@ -12,11 +12,14 @@ use Rattle.norm.proofs.Unique.{unique}
 use Rattle.refusals.specs.Refusals.{◌or◌, refuse_settings}
 use Rattle.refusals.specs.Calls.{Outcome, outcome_of, by_refusal}
 use Rattle.refusals.specs.declared.Settings.{Settings}
+use Rattle.refusals.specs.declared.refusal.Refusal.{Refusal}
+use Rattle.refusals.specs.Answered.{number_of}
 use Rattle.refusals.proofs.Laws.{refused, accepted, agree_by}
+use Rattle.refusals.proofs.Numbered.{above_zero}
 use Rattle.rules.specs.Ways.{Way}
 use Rattle.rules.specs.Rules.{State, Watch}
 use Rattle.rules.specs.Answers.{visited_count, score_at}
-use Rattle.calls.specs.declared.Counted.{Counted}
+use Rattle.calls.specs.Lent.{Counted}
 use Rattle.calls.specs.declared.Solved.{Solved}
 use Rattle.calls.specs.declared.Scored.{Scored}
 use Rattle.calls.specs.Lent.{counted_of, solved_of, scored_of, solve_lent, solve_done}
@@ -50,6 +53,11 @@ module _ {B : Type 0} {backward : Bool} {g : Given State B} {s : Settings} {watc
   pub call_refused : {r : ℕ} → r ≡ g.tests listed or refuse_settings s or further → (r ≡ 0 → ⊥) → Checks backward g s watch sources listed further (outcome_of (counted_of r 0 0) g.before)
   unfolding unmeasured
   call_refused e h = record { leaves = refused (λ k. counted_of k 0 0) g.before _ _ e h }
+
+  -- for e
+  pub call_refused_for : (e : Refusal) → number_of e ≡ g.tests listed or refuse_settings s or further
+      → Checks backward g s watch sources listed further (outcome_of (counted_of (number_of e) 0 0) g.before)
+  call_refused_for e h = call_refused h (above_zero e)
 
   -- a call is done: the number is 0, and the solve left what it should
   pub call_done : {r : ℕ} {x : Outcome Counted B} → r ≡ g.tests listed or refuse_settings s or further → r ≡ 0 → Settles backward g s watch sources x

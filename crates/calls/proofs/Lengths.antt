@@ -10,7 +10,7 @@ use Rattle.refusals.specs.Calls.{Outcome}
 use Rattle.refusals.specs.declared.Settings.{Settings}
 use Rattle.refusals.proofs.Laws.{AsStated, Sized}
 use Rattle.rules.specs.Rules.{State, Watch}
-use Rattle.calls.specs.declared.Counted.{Counted}
+use Rattle.calls.specs.Lent.{Counted}
 use Rattle.calls.specs.Lent.{Lending, besides, LinksLent}
 use Rattle.calls.specs.Outcomes.{given_rows, given_links, ends}
 use Rattle.calls.specs.Promises.{Settles}

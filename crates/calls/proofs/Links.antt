@@ -13,7 +13,7 @@ use Rattle.graph.specs.Store.{Compressed}
 use Rattle.graph.proofs.Back.{held_rows}
 use Rattle.rules.specs.Ways.{over}
 use Rattle.rules.specs.Rules.{State, Watch, solve}
-use Rattle.calls.specs.declared.Counted.{Counted}
+use Rattle.calls.specs.Lent.{Counted}
 use Rattle.calls.specs.Lent.{Lending, LinksLent, links_lent, links_done}
 use Rattle.calls.specs.Outcomes.{given_rows, given_links, ends}
 use Rattle.calls.specs.Promises.{Settles, counted_in}

@@ -1,8 +1,11 @@
 -- What a call answers, by its parts; what is lent to it, the lengths that are stated for that, and what it holds after a call that is done. Assumes nothing.
-use Rattle.std.specs.Prelude.{ℕ, ◌+◌, ◌/◌, List, [], ◌∷◌, ◌++◌, length, replicate, Float}
+use Rattle.std.specs.Prelude.{ℕ, Result, Ok, Err, ◌+◌, ◌/◌, List, [], ◌∷◌, ◌++◌, length, replicate, Float}
 use Rattle.numbers.specs.Numbers.{+0}
 use Rattle.rules.specs.Rules.{State}
-use Rattle.calls.specs.declared.Counted.{Counted}
+use Rattle.refusals.specs.declared.refusal.Refusal.{Refusal}
+use Rattle.refusals.specs.Answered.{number_of}
+use Rattle.calls.specs.declared.Counts.{Counts}
+use Rattle.calls.specs.declared.Summary.{Summary}
 use Rattle.calls.specs.declared.Solved.{Solved}
 use Rattle.calls.specs.declared.Scored.{Scored}
 
@@ -10,7 +13,13 @@ use Rattle.calls.specs.declared.Scored.{Scored}
 unfoldable pub words : ℕ → ℕ
 words n = (n + 63) / 64
 
--- the answer of a solve before its norm is taken, by its parts
+-- the answer of a solve before its norm is taken: the number of its refusal, or 0, and its counts
+pub record Counted : Type 0 where
+  pub refusal : ℕ
+  pub push_count : ℕ
+  pub nodes_visited : ℕ
+
+-- the same, by its parts
 abbrev pub counted_of : ℕ → ℕ → ℕ → Counted
 counted_of refusal pushes visited = record { refusal = refusal; push_count = pushes; nodes_visited = visited }
 
@@ -21,6 +30,27 @@ solved_of refusal pushes visited norm = record { refusal = refusal; push_count =
 -- the answer of a query, by its parts
 abbrev pub scored_of : ℕ → Float → Scored
 scored_of refusal x = record { refusal = refusal; score = x }
+
+-- ---- what an answer of the library comes to: a refusal's number, and 0 and +0 for the rest
+
+-- the counts of a solve that is done
+abbrev pub done_counts : Counts → Counted
+done_counts c = counted_of 0 c.push_count c.nodes_visited
+
+-- a solve before its norm is taken
+abbrev pub counted_for : Result Counts Refusal → Counted
+counted_for (Ok c) = done_counts c
+counted_for (Err refusal) = counted_of (number_of refusal) 0 0
+
+-- a solve
+abbrev pub solved_for : Result Summary Refusal → Solved
+solved_for (Ok s) = solved_of 0 s.push_count s.nodes_visited s.residual_norm
+solved_for (Err refusal) = solved_of (number_of refusal) 0 0 +0
+
+-- a query
+abbrev pub scored_for : Result Float Refusal → Scored
+scored_for (Ok score) = scored_of 0 score
+scored_for (Err refusal) = scored_of (number_of refusal) +0
 
 -- ---- kinds of lending
 

@@ -9,7 +9,7 @@ use Rattle.graph.specs.Rows.{Entry, links_of, rows_of, rows_in}
 use Rattle.rules.specs.Ways.{over}
 use Rattle.rules.specs.Rules.{State, Watch, unwatched, watched, solve}
 use Rattle.rules.specs.Answers.{visited_count, score_at}
-use Rattle.calls.specs.declared.Counted.{Counted}
+use Rattle.calls.specs.Lent.{Counted}
 use Rattle.calls.specs.declared.Solved.{Solved}
 use Rattle.calls.specs.declared.Scored.{Scored}
 use Rattle.calls.specs.Lent.{counted_of, solved_of, scored_of, Lending, LinksLent, links_done}

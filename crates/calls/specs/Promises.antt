@@ -10,7 +10,7 @@ use Rattle.rules.specs.Ways.{Way}
 use Rattle.rules.specs.Rules.{State, Watch}
 use Rattle.rules.specs.Answers.{visited_count}
 use Rattle.pushes.specs.Buffers.{Room}
-use Rattle.calls.specs.declared.Counted.{Counted}
+use Rattle.calls.specs.Lent.{Counted}
 use Rattle.calls.specs.declared.Solved.{Solved}
 use Rattle.calls.specs.declared.Scored.{Scored}
 use Rattle.calls.specs.Lent.{words, counted_of, solved_of, scored_of, SolveLent}

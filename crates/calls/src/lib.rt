@@ -8,24 +8,33 @@ ghost use Rattle.refusals.specs.Refusals.{lengths_differ, Sound};
 ghost use Rattle.rules.specs.Rules as Rules;
 ghost use Rattle.rules.specs.Answers.{extrapolated};
 ghost use Rattle.watching.specs.Watching.{watch_in};
-ghost use Rattle.pushes.specs.Buffers.{lists_in, lists, Rows};
+ghost use Rattle.pushes.specs.Buffers.{lists_of, Rows};
 ghost use Rattle.pushes.specs.Meant.{Stands};
-ghost use Rattle.calls.specs.Lent.{words, solve_lent};
+ghost use Rattle.calls.specs.Lent.{words, done_counts, counted_for, solved_for, scored_for, solve_lent};
 ghost use Rattle.calls.specs.Promises.{Fits, Measured, Queried, SolveSettled};
 
+use pushes::{Frontier, Graph, Tally};
+use queue::WorkQueue;
 use refusals::Settings;
-use watching::Watch;
+use refusals::refusal::Refusal;
+use watching::Watched;
 
-// What a solve answers before its norm is taken: how many pushes it made, and how many nodes it pushed. Number 0 is
-// done.
+// What a solve that is done comes to before its norm is taken: how many pushes it made, and how many nodes it pushed.
 #[derive(Clone, Copy)]
-pub struct Counted {
-    pub refusal: u32,
+pub struct Counts {
     pub push_count: u64,
     pub nodes_visited: u64,
 }
 
-// What a solve answers. Number 0 is done.
+// What a solve that is done answers.
+#[derive(Clone, Copy)]
+pub struct Summary {
+    pub push_count: u64,
+    pub nodes_visited: u64,
+    pub residual_norm: f64,
+}
+
+// What C gets of a solve: the number of the refusal, or 0, and what the solve answers.
 #[repr(C)]
 #[derive(Clone, Copy)]
 pub struct Solved {
@@ -35,12 +44,47 @@ pub struct Solved {
     pub residual_norm: f64,
 }
 
-// What a query answers. Number 0 is done.
+impl From<Result<Summary, Refusal>> for Solved {
+    ghost from_gives = { λ answer solved. solved ≡ solved_for answer };
+
+    fn from(answer: Result<Summary, Refusal>) -> Solved {
+        match answer {
+            Ok(summary) => Solved {
+                refusal: 0,
+                push_count: summary.push_count,
+                nodes_visited: summary.nodes_visited,
+                residual_norm: summary.residual_norm,
+            },
+            Err(refusal) => Solved {
+                refusal: refusal.into(),
+                push_count: 0,
+                nodes_visited: 0,
+                residual_norm: 0.0,
+            },
+        }
+    }
+}
+
+// What C gets of a query: the number of the refusal, or 0, and the score.
 #[repr(C)]
 #[derive(Clone, Copy)]
 pub struct Scored {
     pub refusal: u32,
     pub score: f64,
+}
+
+impl From<Result<f64, Refusal>> for Scored {
+    ghost from_gives = { λ answer scored. scored ≡ scored_for answer };
+
+    fn from(answer: Result<f64, Refusal>) -> Scored {
+        match answer {
+            Ok(score) => Scored { refusal: 0, score },
+            Err(refusal) => Scored {
+                refusal: refusal.into(),
+                score: 0.0,
+            },
+        }
+    }
 }
 
 // Whether a test failed before, or a buffer of a solve among n nodes has another length than stated.
@@ -112,24 +156,16 @@ pub fn rows_lengths_differ(n: u32, m: usize, starts: usize, weights: usize) -> b
     (starts != n as usize + 1) | (weights != m)
 }
 
-// The answer of a solve: refused, or done with the norm of its residual.
-pub fn measured(c: Counted, residual: &[f64]) -> Solved
-    ensures { Measured c residual.now result }
+// The answer of a solve, with the norm of its residual if it is done.
+pub fn measured(counts: Result<Counts, Refusal>, residual: &[f64]) -> Result<Summary, Refusal>
+    ensures { Measured (counted_for counts) residual.now (solved_for result) }
 {
-    if c.refusal != 0 {
-        return Solved {
-            refusal: c.refusal,
-            push_count: 0,
-            nodes_visited: 0,
-            residual_norm: 0.0,
-        };
-    }
-    Solved {
-        refusal: 0,
-        push_count: c.push_count,
-        nodes_visited: c.nodes_visited,
+    let counts = counts?;
+    Ok(Summary {
+        push_count: counts.push_count,
+        nodes_visited: counts.nodes_visited,
         residual_norm: norm::compute_residual_norm(residual),
-    }
+    })
 }
 
 // The score of v, +0 where it is no node.
@@ -144,20 +180,12 @@ pub fn score_at(estimate: &[f64], v: u32) -> f64
     }
 }
 
-// The answer of a query: refused, or done with the score of v.
-pub fn answered(refusal: u32, estimate: &[f64], v: u32) -> Scored
-    ensures { Queried refusal estimate.now v result }
+// The answer of a query, which is the score of v if its solve is done.
+pub fn answered(counts: Result<Counts, Refusal>, estimate: &[f64], v: u32) -> Result<f64, Refusal>
+    ensures { Queried (counted_for counts).refusal estimate.now v (scored_for result) }
 {
-    if refusal != 0 {
-        return Scored {
-            refusal,
-            score: 0.0,
-        };
-    }
-    Scored {
-        refusal: 0,
-        score: score_at(estimate, v),
-    }
+    counts?;
+    Ok(score_at(estimate, v))
 }
 
 // The solution that the residual of a solve lets expect: the estimate and alpha times the residual, node by node.
@@ -165,45 +193,40 @@ pub fn extrapolate(estimate: &[f64], residual: &[f64], alpha: f64, solution: &mu
     requires { (length residual.now ≡ length estimate.now) × (length solution.old ≡ length estimate.now) }
     ensures { solution.new ≡ extrapolated alpha (length estimate.now) estimate.now residual.now }
 {
-    let mut v: usize = 0;
-    while v < estimate.len() {
+    for v in 0..estimate.len() {
         solution[v] = estimate[v] + alpha * residual[v];
-        v += 1;
     }
 }
 
 // A whole solve, as `solver::solve` has it, that counts the visited nodes and leaves the workspace of the queue and the
 // marks cleared.
-pub fn solve_settled<'a>(
+pub fn solve_settled<'a, 'b>(
     settings: Settings,
     backward: bool,
-    watch: Watch,
+    watch: Option<Watched>,
     sources: &[u32],
-    starts: &[u32],
+    starts: &'a [u32],
     columns: &'a [u32],
     reverse_columns: &'a [u32],
     weights: &'a [f64],
     reverse_weights: &'a [f64],
-    degrees: &[f64],
-    out_degrees: &[f64],
-    estimate: &mut [f64],
-    residual: &mut [f64],
-    priorities: &mut [f64],
-    nodes: &mut [u32],
-    queued: &mut [u64],
-    visited: &mut [u64],
-) -> Counted
-    requires { Rows (length degrees.now) backward (lists_in starts columns reverse_columns weights reverse_weights degrees out_degrees)
+    degrees: &'a [f64],
+    out_degrees: &'a [f64],
+    estimate: &'b mut [f64],
+    residual: &'b mut [f64],
+    priorities: &'b mut [f64],
+    nodes: &'b mut [u32],
+    queued: &'b mut [u64],
+    visited: &'b mut [u64],
+) -> Counts
+    requires { Rows (length degrees.now) backward (lists_of starts.now columns.now reverse_columns.now weights.now reverse_weights.now degrees.now out_degrees.now)
         × Fits (length degrees.now) sources.now (solve_lent estimate.old residual.old degrees.now priorities.old nodes.old queued.old visited.old) × Sound settings }
-    ensures { SolveSettled (Stands (length degrees.now) backward (lists starts columns reverse_columns weights reverse_weights degrees out_degrees))
+    ensures { SolveSettled (Stands (length degrees.now) backward (lists_of starts.now columns.now reverse_columns.now weights.now reverse_weights.now degrees.now out_degrees.now))
         (λ way. Rules.solve way settings (watch_in watch) (length degrees.now) sources.now)
-        (length degrees.now) result estimate.new residual.new priorities.new nodes.new queued.new visited.new }
+        (length degrees.now) (done_counts result) estimate.new residual.new priorities.new nodes.new queued.new visited.new }
 {
-    let p = solver::solve(
-        settings,
+    let graph = Graph {
         backward,
-        watch,
-        sources,
         starts,
         columns,
         reverse_columns,
@@ -211,19 +234,30 @@ pub fn solve_settled<'a>(
         reverse_weights,
         degrees,
         out_degrees,
-        estimate,
+    };
+    let queue = WorkQueue {
+        threshold: settings.queue_threshold,
+        size: 0,
+    };
+    let mut frontier = Frontier {
+        queue,
         residual,
         priorities,
         nodes,
         queued,
+    };
+    let mut tally = Tally {
+        pushes: 0,
+        estimate,
         visited,
-    );
+    };
+    solver::solve(settings, watch, sources, graph, &mut frontier, &mut tally);
+    let push_count = tally.pushes;
     let ones = marks::count(visited);
     queue::clear(priorities, nodes, queued);
-    marks::clear(visited);
-    Counted {
-        refusal: 0,
-        push_count: p.pushes,
+    visited.fill(0);
+    Counts {
+        push_count,
         nodes_visited: ones as u64,
     }
 }

@@ -3,23 +3,25 @@
 
 ghost use Rattle.std.specs.Prelude.{false, ◌≡◌, List, [], ◌∷◌, ◌++◌, ℕ, ◌+◌, ◌≤◌, length};
 ghost use Rattle.refusals.specs.Refusals.{lengths_differ, Sound, link_tests};
+ghost use Rattle.refusals.specs.Answered.{number_in};
 ghost use Rattle.refusals.specs.Calls.{outcome_of};
 ghost use Rattle.graph.specs.Store.{Buffers};
 ghost use Rattle.rules.specs.Ways.{push_backward};
 ghost use Rattle.watching.specs.Watching.{watch_in};
-ghost use Rattle.calls.specs.Lent.{words, besides, solve_lent, links_lent};
+ghost use Rattle.calls.specs.Lent.{words, besides, solve_lent, links_lent, done_counts, counted_for};
 ghost use Rattle.calls.specs.Outcomes.{given_links};
 ghost use Rattle.calls.specs.Promises.{Fits, Settles, Checks};
 ghost use Rattle.backward_push.specs.Lent.{back_lent, reversing};
 
 use backward_push::rows::solve_rows;
-use calls::Counted;
+use calls::Counts;
 use refusals::Settings;
-use watching::Watch;
+use refusals::refusal::Refusal;
+use watching::Watched;
 
 // Tests 1 to 5 of a call with a list of m links, by the lengths of what is lent, and by whether another buffer has another
 // length than stated.
-pub fn refuse_links(
+pub fn check_links(
     other: bool,
     n: u32,
     listed: usize,
@@ -40,9 +42,9 @@ pub fn refuse_links(
     nodes: usize,
     queued: usize,
     visited: usize,
-) -> u32
+) -> Result<(), Refusal>
     ensures { (more : List (ℕ × ℕ)) → other ≡ lengths_differ false more
-        → result ≡ link_tests n m listed ((to, m) ∷ (length weight.now, m) ∷ (starts, n + 1) ∷ (columns, m) ∷ (weights, m) ∷ (more
+        → number_in result ≡ link_tests n m listed ((to, m) ∷ (length weight.now, m) ∷ (starts, n + 1) ∷ (columns, m) ∷ (weights, m) ∷ (more
         ++ (reverse_starts, n + 1) ∷ (reverse_columns, m) ∷ (reverse_weights, m) ∷ (out_degrees, n)
         ∷ (estimate, n) ∷ (residual, n) ∷ (in_degrees, n) ∷ (priorities, n) ∷ (nodes, n) ∷ (queued, words n) ∷ (visited, words n) ∷ []))
         weight.now }
@@ -60,7 +62,7 @@ pub fn refuse_links(
     let differ = calls::solve_lengths_differ(
         differ, n, estimate, residual, in_degrees, priorities, nodes, queued, visited,
     );
-    refusals::refuse_links(n as usize, m, listed, differ, weight)
+    refusals::check_links(n as usize, m, listed, differ, weight)
 }
 
 // A backward solve of a list of links. The queue's nodes serve as positions while the rows are made.
@@ -70,7 +72,7 @@ fn solve_links(
     to: &[u32],
     weight: &[f64],
     targets: &[u32],
-    watch: Watch,
+    watch: Option<Watched>,
     settings: Settings,
     estimate: &mut [f64],
     residual: &mut [f64],
@@ -86,7 +88,7 @@ fn solve_links(
     nodes: &mut [u32],
     queued: &mut [u64],
     visited: &mut [u64],
-) -> Counted
+) -> Counts
     requires { Buffers n from.now to.now weight.now starts.old columns.old weights.old nodes.old
         × (length reverse_starts.old ≡ n + 1) × (length reverse_columns.old ≡ length from.now) × (length reverse_weights.old ≡ length from.now)
         × (length out_degrees.old ≡ n)
@@ -95,7 +97,7 @@ fn solve_links(
         (links_lent starts.old columns.old weights.old (back_lent reverse_starts.old reverse_columns.old reverse_weights.old out_degrees.old
         (solve_lent estimate.old residual.old in_degrees.old priorities.old nodes.old queued.old visited.old))))
         settings (watch_in watch) targets.now
-        (outcome_of result (links_lent starts.new columns.new weights.new (back_lent reverse_starts.new reverse_columns.new reverse_weights.new out_degrees.new
+        (outcome_of (done_counts result) (links_lent starts.new columns.new weights.new (back_lent reverse_starts.new reverse_columns.new reverse_weights.new out_degrees.new
         (solve_lent estimate.new residual.new in_degrees.new priorities.new nodes.new queued.new visited.new)))) }
 {
     graph::build_rows(n, from, to, weight, starts, columns, weights, nodes);
@@ -119,15 +121,15 @@ fn solve_links(
         queued,
         visited,
     );
-    numbers::clear(starts);
-    numbers::clear(columns);
-    numbers::clear_floats(weights);
+    starts.fill(0);
+    columns.fill(0);
+    weights.fill(0.0);
     counts
 }
 
-// A backward call with a list of links: refused with the first number that applies, or solved. `other` says whether
+// A backward call with a list of links: refused for the first reason that applies, or solved. `other` says whether
 // another buffer of the call has another length than stated, `listed` is how many targets the call lists, 0 where it
-// names one, and `further` the number of the tests after those of the settings.
+// names one, and `further` what the tests after those of the settings say.
 pub fn checked_links(
     n: u32,
     from: &[u32],
@@ -136,9 +138,9 @@ pub fn checked_links(
     targets: &[u32],
     other: bool,
     listed: usize,
-    watch: Watch,
+    watch: Option<Watched>,
     settings: Settings,
-    further: u32,
+    further: Result<(), Refusal>,
     estimate: &mut [f64],
     residual: &mut [f64],
     starts: &mut [u32],
@@ -153,16 +155,16 @@ pub fn checked_links(
     nodes: &mut [u32],
     queued: &mut [u64],
     visited: &mut [u64],
-) -> Counted
+) -> Result<Counts, Refusal>
     requires { listed ≤ 65536 → length targets.now ≤ 65536 }
     ensures { (more : List (ℕ × ℕ)) → other ≡ lengths_differ false more → Checks push_backward (given_links (besides more reversing) n from.now to.now weight.now
         (links_lent starts.old columns.old weights.old (back_lent reverse_starts.old reverse_columns.old reverse_weights.old out_degrees.old
         (solve_lent estimate.old residual.old in_degrees.old priorities.old nodes.old queued.old visited.old))))
-        settings (watch_in watch) targets.now listed further
-        (outcome_of result (links_lent starts.new columns.new weights.new (back_lent reverse_starts.new reverse_columns.new reverse_weights.new out_degrees.new
+        settings (watch_in watch) targets.now listed (number_in further)
+        (outcome_of (counted_for result) (links_lent starts.new columns.new weights.new (back_lent reverse_starts.new reverse_columns.new reverse_weights.new out_degrees.new
         (solve_lent estimate.new residual.new in_degrees.new priorities.new nodes.new queued.new visited.new)))) }
 {
-    let tests = refuse_links(
+    check_links(
         other,
         n,
         listed,
@@ -183,17 +185,10 @@ pub fn checked_links(
         nodes.len(),
         queued.len(),
         visited.len(),
-    );
-    let later = refusals::or(refusals::refuse_settings(settings), further);
-    let refusal = refusals::or(tests, later);
-    if refusal != 0 {
-        return Counted {
-            refusal,
-            push_count: 0,
-            nodes_visited: 0,
-        };
-    }
-    solve_links(
+    )?;
+    refusals::check_settings(settings)?;
+    further?;
+    Ok(solve_links(
         n,
         from,
         to,
@@ -215,5 +210,5 @@ pub fn checked_links(
         nodes,
         queued,
         visited,
-    )
+    ))
 }

@@ -6,7 +6,7 @@ ghost use Rattle.std.specs.Prelude.{◌≡◌, [], ◌+◌, length};
 ghost use Rattle.refusals.specs.Refusals.{Sound};
 ghost use Rattle.refusals.specs.Calls.{outcome_of};
 ghost use Rattle.graph.specs.Store.{Buffers};
-ghost use Rattle.calls.specs.Lent.{solve_lent, links_lent};
+ghost use Rattle.calls.specs.Lent.{solve_lent, links_lent, scored_for};
 ghost use Rattle.calls.specs.Outcomes.{given_links};
 ghost use Rattle.calls.specs.Promises.{Fits};
 ghost use Rattle.backward_push.specs.Lent.{back_lent};
@@ -14,8 +14,8 @@ ghost use Rattle.bidirectional_push.specs.Lent.{both_lent, joining};
 ghost use Rattle.bidirectional_push.specs.Promises.{Joins, ChecksBoth};
 
 use bidirectional_push::rows::solve_rows;
-use calls::Scored;
 use refusals::Settings;
+use refusals::refusal::Refusal;
 
 // The solves of a list of links that a method uses, and the score. The queue's nodes serve as positions while the rows
 // are made.
@@ -83,13 +83,13 @@ fn solve_links(
         queued,
         visited,
     );
-    numbers::clear(starts);
-    numbers::clear(columns);
-    numbers::clear_floats(weights);
+    starts.fill(0);
+    columns.fill(0);
+    weights.fill(0.0);
     score
 }
 
-// A bidirectional or adaptive call with a list of links: refused with the first number that applies, or solved.
+// A bidirectional or adaptive call with a list of links: refused for the first reason that applies, or solved.
 pub fn checked_links(
     n: u32,
     from: &[u32],
@@ -116,16 +116,16 @@ pub fn checked_links(
     nodes: &mut [u32],
     queued: &mut [u64],
     visited: &mut [u64],
-) -> Scored
+) -> Result<f64, Refusal>
     ensures { ChecksBoth adaptive (given_links joining n from.now to.now weight.now
         (links_lent starts.old columns.old weights.old (both_lent forward_estimate.old forward_residual.old (back_lent reverse_starts.old reverse_columns.old reverse_weights.old out_degrees.old
         (solve_lent backward_estimate.old backward_residual.old in_degrees.old priorities.old nodes.old queued.old visited.old)))))
         source target forward_settings backward_settings
-        (outcome_of result (links_lent starts.new columns.new weights.new (both_lent forward_estimate.new forward_residual.new (back_lent reverse_starts.new reverse_columns.new reverse_weights.new out_degrees.new
+        (outcome_of (scored_for result) (links_lent starts.new columns.new weights.new (both_lent forward_estimate.new forward_residual.new (back_lent reverse_starts.new reverse_columns.new reverse_weights.new out_degrees.new
         (solve_lent backward_estimate.new backward_residual.new in_degrees.new priorities.new nodes.new queued.new visited.new))))) }
 {
     let k = n as usize;
-    let tests = checked_backward_links::refuse_links(
+    checked_backward_links::check_links(
         (forward_estimate.len() != k) | (forward_residual.len() != k),
         n,
         0,
@@ -146,19 +146,10 @@ pub fn checked_links(
         nodes.len(),
         queued.len(),
         visited.len(),
-    );
-    let later = refusals::or(
-        refusals::refuse_settings(forward_settings),
-        refusals::refuse_settings(backward_settings),
-    );
-    let refusal = refusals::or(tests, later);
-    if refusal != 0 {
-        return Scored {
-            refusal,
-            score: 0.0,
-        };
-    }
-    let score = solve_links(
+    )?;
+    refusals::check_settings(forward_settings)?;
+    refusals::check_settings(backward_settings)?;
+    Ok(solve_links(
         n,
         from,
         to,
@@ -184,6 +175,5 @@ pub fn checked_links(
         nodes,
         queued,
         visited,
-    );
-    Scored { refusal: 0, score }
+    ))
 }

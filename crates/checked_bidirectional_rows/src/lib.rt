@@ -1,17 +1,17 @@
-// What a bidirectional or adaptive call with rows does: refused with the first number that applies, or solved.
+// What a bidirectional or adaptive call with rows does: refused for the first reason that applies, or solved.
 #![tactic(auto)]
 
 ghost use Rattle.refusals.specs.Calls.{outcome_of};
-ghost use Rattle.calls.specs.Lent.{solve_lent};
+ghost use Rattle.calls.specs.Lent.{solve_lent, scored_for};
 ghost use Rattle.calls.specs.Outcomes.{given_rows};
 ghost use Rattle.backward_push.specs.Lent.{back_lent};
 ghost use Rattle.bidirectional_push.specs.Lent.{both_lent, joining};
 ghost use Rattle.bidirectional_push.specs.Promises.{ChecksBoth};
 
-use calls::Scored;
 use refusals::Settings;
+use refusals::refusal::Refusal;
 
-// A bidirectional or adaptive call with rows: refused with the first number that applies, or solved.
+// A bidirectional or adaptive call with rows: refused for the first reason that applies, or solved.
 pub fn checked_rows<'a>(
     n: u32,
     starts: &[u32],
@@ -35,16 +35,16 @@ pub fn checked_rows<'a>(
     nodes: &mut [u32],
     queued: &mut [u64],
     visited: &mut [u64],
-) -> Scored
+) -> Result<f64, Refusal>
     ensures { ChecksBoth adaptive (given_rows joining n starts.now columns.now weights.now
         (both_lent forward_estimate.old forward_residual.old (back_lent reverse_starts.old reverse_columns.old reverse_weights.old out_degrees.old
         (solve_lent backward_estimate.old backward_residual.old in_degrees.old priorities.old nodes.old queued.old visited.old))))
         source target forward_settings backward_settings
-        (outcome_of result (both_lent forward_estimate.new forward_residual.new (back_lent reverse_starts.new reverse_columns.new reverse_weights.new out_degrees.new
+        (outcome_of (scored_for result) (both_lent forward_estimate.new forward_residual.new (back_lent reverse_starts.new reverse_columns.new reverse_weights.new out_degrees.new
         (solve_lent backward_estimate.new backward_residual.new in_degrees.new priorities.new nodes.new queued.new visited.new)))) }
 {
     let k = n as usize;
-    let tests = checked_backward_rows::refuse_rows(
+    checked_backward_rows::check_rows(
         (forward_estimate.len() != k) | (forward_residual.len() != k),
         n,
         0,
@@ -62,19 +62,10 @@ pub fn checked_rows<'a>(
         nodes.len(),
         queued.len(),
         visited.len(),
-    );
-    let later = refusals::or(
-        refusals::refuse_settings(forward_settings),
-        refusals::refuse_settings(backward_settings),
-    );
-    let refusal = refusals::or(tests, later);
-    if refusal != 0 {
-        return Scored {
-            refusal,
-            score: 0.0,
-        };
-    }
-    let score = bidirectional_push::rows::solve_rows(
+    )?;
+    refusals::check_settings(forward_settings)?;
+    refusals::check_settings(backward_settings)?;
+    Ok(bidirectional_push::rows::solve_rows(
         n,
         starts,
         columns,
@@ -97,6 +88,5 @@ pub fn checked_rows<'a>(
         nodes,
         queued,
         visited,
-    );
-    Scored { refusal: 0, score }
+    ))
 }

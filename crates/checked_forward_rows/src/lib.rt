@@ -1,21 +1,23 @@
-// What a forward call with rows does: refused with the first number that applies, or solved.
+// What a forward call with rows does: refused for the first reason that applies, or solved.
 #![tactic(auto)]
 
 ghost use Rattle.std.specs.Prelude.{◌≡◌, [], ◌∷◌, ◌+◌, ◌≤◌, length};
 ghost use Rattle.refusals.specs.Refusals.{row_tests};
+ghost use Rattle.refusals.specs.Answered.{number_in};
 ghost use Rattle.refusals.specs.Calls.{outcome_of};
 ghost use Rattle.rules.specs.Ways.{push_forward};
 ghost use Rattle.watching.specs.Watching.{watch_in};
-ghost use Rattle.calls.specs.Lent.{words, solve_lent, solving};
+ghost use Rattle.calls.specs.Lent.{words, solve_lent, solving, counted_for};
 ghost use Rattle.calls.specs.Outcomes.{given_rows};
 ghost use Rattle.calls.specs.Promises.{Checks};
 
-use calls::Counted;
+use calls::Counts;
 use refusals::Settings;
-use watching::Watch;
+use refusals::refusal::Refusal;
+use watching::Watched;
 
 // Tests 1 to 5 of a call with rows, by the lengths of what is lent.
-fn refuse_rows(
+fn check_rows(
     n: u32,
     listed: usize,
     starts: &[u32],
@@ -28,8 +30,8 @@ fn refuse_rows(
     nodes: usize,
     queued: usize,
     visited: usize,
-) -> u32
-    ensures { result ≡ row_tests n listed ((length starts.now, n + 1) ∷ (length weights.now, length columns.now)
+) -> Result<(), Refusal>
+    ensures { number_in result ≡ row_tests n listed ((length starts.now, n + 1) ∷ (length weights.now, length columns.now)
         ∷ (estimate, n) ∷ (residual, n) ∷ (degrees, n) ∷ (priorities, n) ∷ (nodes, n) ∷ (queued, words n) ∷ (visited, words n) ∷ [])
         starts.now columns.now weights.now }
 {
@@ -37,11 +39,11 @@ fn refuse_rows(
     let differ = calls::solve_lengths_differ(
         lists, n, estimate, residual, degrees, priorities, nodes, queued, visited,
     );
-    refusals::refuse_rows(n, listed, differ, starts, columns, weights)
+    refusals::check_rows(n, listed, differ, starts, columns, weights)
 }
 
-// A forward call with rows: refused with the first number that applies, or solved. `listed` is how many sources the
-// call lists, 0 where it names one, and `further` the number of the tests after those of the settings.
+// A forward call with rows: refused for the first reason that applies, or solved. `listed` is how many sources the
+// call lists, 0 where it names one, and `further` what the tests after those of the settings say.
 pub fn checked_rows<'a>(
     n: u32,
     starts: &[u32],
@@ -49,9 +51,9 @@ pub fn checked_rows<'a>(
     weights: &'a [f64],
     sources: &[u32],
     listed: usize,
-    watch: Watch,
+    watch: Option<Watched>,
     settings: Settings,
-    further: u32,
+    further: Result<(), Refusal>,
     estimate: &mut [f64],
     residual: &mut [f64],
     degrees: &mut [f64],
@@ -59,14 +61,14 @@ pub fn checked_rows<'a>(
     nodes: &mut [u32],
     queued: &mut [u64],
     visited: &mut [u64],
-) -> Counted
+) -> Result<Counts, Refusal>
     requires { listed ≤ 65536 → length sources.now ≤ 65536 }
     ensures { Checks push_forward (given_rows solving n starts.now columns.now weights.now
         (solve_lent estimate.old residual.old degrees.old priorities.old nodes.old queued.old visited.old))
-        settings (watch_in watch) sources.now listed further
-        (outcome_of result (solve_lent estimate.new residual.new degrees.new priorities.new nodes.new queued.new visited.new)) }
+        settings (watch_in watch) sources.now listed (number_in further)
+        (outcome_of (counted_for result) (solve_lent estimate.new residual.new degrees.new priorities.new nodes.new queued.new visited.new)) }
 {
-    let tests = refuse_rows(
+    check_rows(
         n,
         listed,
         starts,
@@ -79,18 +81,11 @@ pub fn checked_rows<'a>(
         nodes.len(),
         queued.len(),
         visited.len(),
-    );
-    let later = refusals::or(refusals::refuse_settings(settings), further);
-    let refusal = refusals::or(tests, later);
-    if refusal != 0 {
-        return Counted {
-            refusal,
-            push_count: 0,
-            nodes_visited: 0,
-        };
-    }
-    forward_push::rows::solve_rows(
+    )?;
+    refusals::check_settings(settings)?;
+    further?;
+    Ok(forward_push::rows::solve_rows(
         n, starts, columns, weights, sources, watch, settings, estimate, residual, degrees,
         priorities, nodes, queued, visited,
-    )
+    ))
 }

@@ -5,9 +5,10 @@ pub mod methods;
 
 ghost use Rattle.std.specs.Prelude.{◌≡◌, length};
 ghost use Rattle.rules.specs.Answers.{combined};
+ghost use Rattle.calls.specs.Lent.{scored_for};
 ghost use Rattle.combination.specs.Outcomes.{combining};
 
-use calls::Scored;
+use refusals::refusal::Refusal;
 
 // Which solves are used.
 #[derive(Clone, Copy)]
@@ -31,13 +32,11 @@ pub fn combine(
         (length backward_estimate.now) }
 {
     let mut total: f64 = 0.0;
-    let mut v: usize = 0;
-    while v < backward_estimate.len() {
+    for v in 0..backward_estimate.len() {
         total = total
             + backward_estimate[v] * forward_estimate[v]
             + backward_residual[v] * forward_estimate[v] * alpha
             + backward_estimate[v] * forward_residual[v] * alpha;
-        v += 1;
     }
     total
 }
@@ -49,29 +48,20 @@ pub fn combine_with_forward(
     forward_estimate: &[f64],
     forward_residual: &[f64],
     alpha: f64,
-) -> Scored
-    ensures { result ≡ combining backward_estimate.now backward_residual.now forward_estimate.now forward_residual.now alpha }
+) -> Result<f64, Refusal>
+    ensures { scored_for result ≡ combining backward_estimate.now backward_residual.now forward_estimate.now forward_residual.now alpha }
 {
     let n = backward_estimate.len();
     let differ = (backward_residual.len() != n)
         | (forward_estimate.len() != n)
         | (forward_residual.len() != n);
-    let sizes = refusals::refuse_sizes(n, 0, 0, differ);
-    let refusal = refusals::or(sizes, refusals::refuse_alpha(alpha));
-    if refusal != 0 {
-        return Scored {
-            refusal,
-            score: 0.0,
-        };
-    }
-    Scored {
-        refusal: 0,
-        score: combine(
-            backward_estimate,
-            backward_residual,
-            forward_estimate,
-            forward_residual,
-            alpha,
-        ),
-    }
+    refusals::check_sizes(n, 0, 0, differ)?;
+    refusals::check_alpha(alpha)?;
+    Ok(combine(
+        backward_estimate,
+        backward_residual,
+        forward_estimate,
+        forward_residual,
+        alpha,
+    ))
 }

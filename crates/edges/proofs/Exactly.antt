@@ -4,24 +4,23 @@ use mathlib.Core.List.{List}
 use mathlib.Core.Path.{◌≡◌, refl, sym, ap, ◌∙◌}
 use mathlib.Core.Bool.{false}
 use lib.Ieee.{Float}
+use Rattle.std.specs.Prelude.{Option, None, Some}
 use Rattle.numbers.specs.Numbers.{+0}
 use Rattle.refusals.specs.Calls.{by_refusal, outcome_of}
 use Rattle.edges.specs.Outcomes.{asked, found_of, found_by, has_edge, weighed_of, weighed_by, edge_weight}
 use Rattle.edges.specs.declared.Found.{Found}
 use Rattle.edges.specs.declared.Weighed.{Weighed}
-use Rattle.edges.specs.declared.search.Edge.{Edge}
-use Rattle.edges.specs.declared.search.Edge.TheVariants.{Absent, Present}
 
 -- an answer of `edge_weight` without its weight
 unweighed : Weighed → Found
 unweighed w = found_of w.refusal w.found
 
 -- by the number and the link
-unweighed_is : (k : ℕ) (e : Edge) → (by_refusal {B = Unit {0}} k (λ j. found_of j false) tt (outcome_of (found_by e) tt)).answer
+unweighed_is : (k : ℕ) (e : Option Float) → (by_refusal {B = Unit {0}} k (λ j. found_of j false) tt (outcome_of (found_by e) tt)).answer
     ≡ unweighed (by_refusal {B = Unit {0}} k (λ j. weighed_of j false +0) tt (outcome_of (weighed_by e) tt)).answer
-unfolding by_refusal found_by weighed_by unweighed
-unweighed_is zero Absent = refl
-unweighed_is zero (Present weight) = refl
+unfolding by_refusal found_by unweighed
+unweighed_is zero None = refl
+unweighed_is zero (Some weight) = refl
 unweighed_is (suc k) e = refl
 
 -- whatever the two calls are given

@@ -1,5 +1,5 @@
 -- Worked examples: a link that is listed twice, links of weight +0 and -0, one of them from a node to itself, and a link with an end out of range. Assumes nothing.
-use Rattle.std.specs.Prelude.{ℕ, true, false, List, [], ◌∷◌, map, ◌≡◌, refl, Float}
+use Rattle.std.specs.Prelude.{ℕ, true, false, List, [], ◌∷◌, map, ◌≡◌, refl, Float, None, Some}
 use Rattle.std.specs.Float.{nan}
 use Rattle.std.specs.Float.Ieee.{of_bits, le}
 use Rattle.numbers.specs.Numbers.{f64, +0, one}
@@ -10,7 +10,6 @@ use Rattle.refusals.specs.Calls.{by_refusal}
 use Rattle.graph.specs.Rows.{Link, links_of, kept, row_in, rows_in, entries_of}
 use Rattle.edges.specs.Edges.{first_to, edge_in, joins, first, edge_among}
 use Rattle.edges.specs.Outcomes.{asked_refusal, asked, found_of, found_by, has_edge, weighed_of, weighed_by, edge_weight}
-use Rattle.edges.specs.declared.search.Edge.TheVariants.{Absent, Present}
 
 -- 2, 3 and -0
 two : Float
@@ -31,12 +30,12 @@ links = links_of (0 ∷ 1 ∷ 0 ∷ 2 ∷ 1 ∷ []) (1 ∷ 1 ∷ 1 ∷ 0 ∷ 3 �
 
 -- among three nodes: of two links the first; links of weight +0 and -0; not the other way; not to 3, which is out of range; not from 3
 among_three : map (λ (p : ℕ × ℕ). edge_among 3 p.0 p.1 links) ((0, 1) ∷ (1, 1) ∷ (2, 0) ∷ (1, 0) ∷ (0, 0) ∷ (1, 3) ∷ (3, 1) ∷ [])
-    ≡ Present two ∷ Present +0 ∷ Present -0 ∷ Absent ∷ Absent ∷ Absent ∷ Absent ∷ []
+    ≡ Some two ∷ Some +0 ∷ Some -0 ∷ None ∷ None ∷ None ∷ None ∷ []
 unfolding edge_among first only joins kept if◌then◌otherwise◌ links
 among_three = refl
 
 -- among four nodes 3 is in range, and among one no link is kept
-among_others : edge_among 4 1 3 links ∷ edge_among 1 0 1 links ∷ [] ≡ Present one ∷ Absent ∷ []
+among_others : edge_among 4 1 3 links ∷ edge_among 1 0 1 links ∷ [] ≡ Some one ∷ None ∷ []
 unfolding edge_among first only joins kept if◌then◌otherwise◌ links
 among_others = refl
 

@@ -1,15 +1,16 @@
 // Whether one node links to another, and how strongly: two public calls over rows. Each tests the whole rows, refuses
-// them with the first number that applies, or searches one row up to the first match. Neither writes anything.
+// them for the first reason that applies, or searches one row up to the first match. Neither writes anything.
 #![tactic(auto)]
 
 pub mod search;
 
 ghost use Rattle.std.specs.Prelude.{◌≡◌};
-ghost use Rattle.edges.specs.Outcomes.{asked_refusal, has_edge, edge_weight};
+ghost use Rattle.refusals.specs.Answered.{number_in};
+ghost use Rattle.edges.specs.Outcomes.{found_for, weighed_for, asked_refusal, has_edge, edge_weight};
 
-use crate::search::Edge;
+use refusals::refusal::Refusal;
 
-// What `has_edge` answers.
+// What C gets of `has_edge`: the number of the refusal, or 0, and whether there is a link.
 #[repr(C)]
 #[derive(Clone, Copy)]
 pub struct Found {
@@ -17,7 +18,21 @@ pub struct Found {
     pub found: bool,
 }
 
-// What `edge_weight` answers. The weight is +0 if there is no link.
+impl From<Result<bool, Refusal>> for Found {
+    ghost from_gives = { λ answer found. found ≡ found_for answer };
+
+    fn from(answer: Result<bool, Refusal>) -> Found {
+        match answer {
+            Ok(found) => Found { refusal: 0, found },
+            Err(refusal) => Found {
+                refusal: refusal.into(),
+                found: false,
+            },
+        }
+    }
+}
+
+// What C gets of `edge_weight`: the same, and the weight, which is +0 if there is no link.
 #[repr(C)]
 #[derive(Clone, Copy)]
 pub struct Weighed {
@@ -26,12 +41,31 @@ pub struct Weighed {
     pub weight: f64,
 }
 
-// The first number of the tests 1 to 5 that refuses the rows.
-fn refuse(n: u32, starts: &[u32], columns: &[u32], weights: &[f64]) -> u32
-    ensures { result ≡ asked_refusal n starts.now columns.now weights.now }
+impl From<Result<Option<f64>, Refusal>> for Weighed {
+    ghost from_gives = { λ answer weighed. weighed ≡ weighed_for answer };
+
+    fn from(answer: Result<Option<f64>, Refusal>) -> Weighed {
+        match answer {
+            Ok(edge) => Weighed {
+                refusal: 0,
+                found: edge.is_some(),
+                weight: edge.unwrap_or(0.0),
+            },
+            Err(refusal) => Weighed {
+                refusal: refusal.into(),
+                found: false,
+                weight: 0.0,
+            },
+        }
+    }
+}
+
+// The tests 1 to 5 of the rows.
+fn check(n: u32, starts: &[u32], columns: &[u32], weights: &[f64]) -> Result<(), Refusal>
+    ensures { number_in result ≡ asked_refusal n starts.now columns.now weights.now }
 {
     let differ = (starts.len() != n as usize + 1) | (weights.len() != columns.len());
-    refusals::refuse_rows(n, 0, differ, starts, columns, weights)
+    refusals::check_rows(n, 0, differ, starts, columns, weights)
 }
 
 // Whether there is a link.
@@ -42,29 +76,14 @@ pub fn has_edge(
     weights: &[f64],
     from: u32,
     to: u32,
-) -> Found
-    ensures { result ≡ has_edge n starts.now columns.now weights.now from to }
+) -> Result<bool, Refusal>
+    ensures { found_for result ≡ has_edge n starts.now columns.now weights.now from to }
 {
-    let refusal = refuse(n, starts, columns, weights);
-    if refusal != 0 {
-        return Found {
-            refusal,
-            found: false,
-        };
-    }
-    match search::edge_between(n, starts, columns, weights, from, to) {
-        Edge::Absent => Found {
-            refusal: 0,
-            found: false,
-        },
-        Edge::Present { weight: _ } => Found {
-            refusal: 0,
-            found: true,
-        },
-    }
+    check(n, starts, columns, weights)?;
+    Ok(search::edge_between(n, starts, columns, weights, from, to).is_some())
 }
 
-// The weight of the first link.
+// The weight of the first link, if there is one.
 pub fn edge_weight(
     n: u32,
     starts: &[u32],
@@ -72,27 +91,9 @@ pub fn edge_weight(
     weights: &[f64],
     from: u32,
     to: u32,
-) -> Weighed
-    ensures { result ≡ edge_weight n starts.now columns.now weights.now from to }
+) -> Result<Option<f64>, Refusal>
+    ensures { weighed_for result ≡ edge_weight n starts.now columns.now weights.now from to }
 {
-    let refusal = refuse(n, starts, columns, weights);
-    if refusal != 0 {
-        return Weighed {
-            refusal,
-            found: false,
-            weight: 0.0,
-        };
-    }
-    match search::edge_between(n, starts, columns, weights, from, to) {
-        Edge::Absent => Weighed {
-            refusal: 0,
-            found: false,
-            weight: 0.0,
-        },
-        Edge::Present { weight } => Weighed {
-            refusal: 0,
-            found: true,
-            weight,
-        },
-    }
+    check(n, starts, columns, weights)?;
+    Ok(search::edge_between(n, starts, columns, weights, from, to))
 }

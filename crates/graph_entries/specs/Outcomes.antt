@@ -1,7 +1,9 @@
 -- The one outcome of each public call of the graph store: the answer and what each lent buffer holds, as a function of all that goes in.
 -- Assumes nothing.
-use Rattle.std.specs.Prelude.{ℕ, ◌+◌, List, [], ◌∷◌, map, length, replicate, Float}
+use Rattle.std.specs.Prelude.{ℕ, Result, Ok, Err, ◌+◌, List, [], ◌∷◌, map, length, replicate, Float}
 use Rattle.refusals.specs.Refusals.{link_tests, row_tests}
+use Rattle.refusals.specs.declared.refusal.Refusal.{Refusal}
+use Rattle.refusals.specs.Answered.{number_of}
 use Rattle.refusals.specs.Calls.{Outcome, outcome_of, by_refusal}
 use Rattle.graph.specs.Rows.{Entry, links_of, rows_of, rows_in, transposed, degree, flat, starts_of, columns_of, weights_of}
 use Rattle.graph_entries.specs.declared.Built.{Built}
@@ -42,6 +44,11 @@ row_lengths n m b more = (length b.starts, n + 1) ∷ (length b.columns, m) ∷ 
 -- the answer, by its parts
 abbrev pub built : ℕ → ℕ → Built
 built refusal kept = record { refusal = refusal; kept = kept }
+
+-- what the library's answer is for C: the count of the kept links, or a refusal
+abbrev pub built_for : Result ℕ Refusal → Built
+built_for (Ok kept) = built 0 kept
+built_for (Err refusal) = built (number_of refusal) 0
 
 -- its first number
 unfoldable pub edges_refusal : ℕ → List ℕ → List ℕ → List Float → RowsLent → ℕ

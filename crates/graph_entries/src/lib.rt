@@ -1,17 +1,34 @@
-// The graph store's public calls. Each tests its own input, refuses it with the first number that
+// The graph store's public calls. Each tests its own input, refuses it for the first reason that
 // applies and leaves every buffer as it was, or does its work in linear time in the buffers lent.
 #![tactic(auto)]
 
 ghost use Rattle.std.specs.Prelude.{◌≡◌};
+ghost use Rattle.refusals.specs.Answered.{number_in};
 ghost use Rattle.refusals.specs.Calls.{outcome_of};
-ghost use Rattle.graph_entries.specs.Outcomes.{rows_lent, graph_lent, from_edges, from_matrix, transposing, row_sums};
+ghost use Rattle.graph_entries.specs.Outcomes.{built_for, rows_lent, graph_lent, from_edges, from_matrix, transposing, row_sums};
 
-// What `from_edges` answers.
+use refusals::refusal::Refusal;
+
+// What C gets of `from_edges`: the number of the refusal, or 0, and how many links are kept.
 #[repr(C)]
 #[derive(Clone, Copy)]
 pub struct Built {
     pub refusal: u32,
     pub kept: u32,
+}
+
+impl From<Result<u32, Refusal>> for Built {
+    ghost from_gives = { λ answer built. built ≡ built_for answer };
+
+    fn from(answer: Result<u32, Refusal>) -> Built {
+        match answer {
+            Ok(kept) => Built { refusal: 0, kept },
+            Err(refusal) => Built {
+                refusal: refusal.into(),
+                kept: 0,
+            },
+        }
+    }
 }
 
 // The compressed rows of a list of links, and how many links are kept.
@@ -24,8 +41,8 @@ pub fn from_edges(
     columns: &mut [u32],
     weights: &mut [f64],
     positions: &mut [u32],
-) -> Built
-    ensures { outcome_of result (rows_lent starts.new columns.new weights.new positions.new)
+) -> Result<u32, Refusal>
+    ensures { outcome_of (built_for result) (rows_lent starts.new columns.new weights.new positions.new)
         ≡ from_edges n from.now to.now weight.now
         (rows_lent starts.old columns.old weights.old positions.old) }
 {
@@ -37,12 +54,8 @@ pub fn from_edges(
         | (columns.len() != m)
         | (weights.len() != m)
         | (positions.len() != k);
-    let refusal = refusals::refuse_links(k, m, 0, differ, weight);
-    if refusal != 0 {
-        return Built { refusal, kept: 0 };
-    }
-    let kept = graph::build_rows(n, from, to, weight, starts, columns, weights, positions);
-    Built { refusal: 0, kept }
+    refusals::check_links(k, m, 0, differ, weight)?;
+    Ok(graph::build_rows(n, from, to, weight, starts, columns, weights, positions))
 }
 
 // What the Rust's `PushGraph` holds beside the rows that it is given: the transposed rows and the degrees of both.
@@ -57,8 +70,8 @@ pub fn from_matrix(
     degrees: &mut [f64],
     reverse_degrees: &mut [f64],
     positions: &mut [u32],
-) -> u32
-    ensures { outcome_of result (graph_lent (rows_lent reverse_starts.new reverse_columns.new reverse_weights.new positions.new)
+) -> Result<(), Refusal>
+    ensures { outcome_of (number_in result) (graph_lent (rows_lent reverse_starts.new reverse_columns.new reverse_weights.new positions.new)
         degrees.new reverse_degrees.new)
         ≡ from_matrix n starts.now columns.now weights.now
         (graph_lent (rows_lent reverse_starts.old reverse_columns.old reverse_weights.old positions.old)
@@ -74,10 +87,7 @@ pub fn from_matrix(
         | (degrees.len() != k)
         | (reverse_degrees.len() != k)
         | (positions.len() != k);
-    let refusal = refusals::refuse_rows(n, 0, differ, starts, columns, weights);
-    if refusal != 0 {
-        return refusal;
-    }
+    refusals::check_rows(n, 0, differ, starts, columns, weights)?;
     graph::sum_rows(starts, weights, degrees);
     graph::reverse_rows(
         n,
@@ -90,7 +100,7 @@ pub fn from_matrix(
         positions,
     );
     graph::sum_rows(reverse_starts, reverse_weights, reverse_degrees);
-    0
+    Ok(())
 }
 
 // The transposed rows.
@@ -103,8 +113,8 @@ pub fn transpose(
     reverse_columns: &mut [u32],
     reverse_weights: &mut [f64],
     positions: &mut [u32],
-) -> u32
-    ensures { outcome_of result (rows_lent reverse_starts.new reverse_columns.new reverse_weights.new positions.new)
+) -> Result<(), Refusal>
+    ensures { outcome_of (number_in result) (rows_lent reverse_starts.new reverse_columns.new reverse_weights.new positions.new)
         ≡ transposing n starts.now columns.now weights.now
         (rows_lent reverse_starts.old reverse_columns.old reverse_weights.old positions.old) }
 {
@@ -116,10 +126,7 @@ pub fn transpose(
         | (reverse_columns.len() != m)
         | (reverse_weights.len() != m)
         | (positions.len() != k);
-    let refusal = refusals::refuse_rows(n, 0, differ, starts, columns, weights);
-    if refusal != 0 {
-        return refusal;
-    }
+    refusals::check_rows(n, 0, differ, starts, columns, weights)?;
     graph::reverse_rows(
         n,
         starts,
@@ -130,7 +137,7 @@ pub fn transpose(
         reverse_weights,
         positions,
     );
-    0
+    Ok(())
 }
 
 // The degree of each row.
@@ -140,15 +147,12 @@ pub fn row_sums(
     columns: &[u32],
     weights: &[f64],
     degrees: &mut [f64],
-) -> u32
-    ensures { outcome_of result degrees.new ≡ row_sums n starts.now columns.now weights.now degrees.old }
+) -> Result<(), Refusal>
+    ensures { outcome_of (number_in result) degrees.new ≡ row_sums n starts.now columns.now weights.now degrees.old }
 {
     let k = n as usize;
     let differ = (starts.len() != k + 1) | (weights.len() != columns.len()) | (degrees.len() != k);
-    let refusal = refusals::refuse_rows(n, 0, differ, starts, columns, weights);
-    if refusal != 0 {
-        return refusal;
-    }
+    refusals::check_rows(n, 0, differ, starts, columns, weights)?;
     graph::sum_rows(starts, weights, degrees);
-    0
+    Ok(())
 }

@@ -1,7 +1,9 @@
 // Reads one job from standard input, and prints its text.
 #![tactic(auto)]
 
-// The standard streams.
+// The numbers of the standard streams, as POSIX has them. The runtime's own streams would rest on
+// more functions of the C library than `read` and `write`, and end with another status where a
+// write fails.
 const STDIN_FILENO: i32 = 0;
 
 const STDOUT_FILENO: i32 = 1;

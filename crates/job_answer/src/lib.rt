@@ -2,15 +2,16 @@
 #![tactic(auto)]
 
 ghost use Rattle.std.specs.Prelude.{true, ◌≡◌, ◌≤◌, length};
-ghost use Rattle.calls.specs.Lent.{solve_lent};
+ghost use Rattle.calls.specs.Lent.{solved_for, solve_lent};
 ghost use Rattle.io.specs.Counts.{IsPrefixLen};
 ghost use Rattle.job_fields.specs.Shape.{links_in, sources_in, shaped};
 ghost use Rattle.job_text.specs.Text.{Grown};
 ghost use Rattle.job_answer.specs.Printed.{settings_in, job_of, job_in, prints, Writes};
 ghost use Rattle.job_answer.specs.Promises.{Roomy, ListsLong, RowsLong, SolveLong, answer_text, writes};
 
-use calls::Solved;
+use calls::Summary;
 use refusals::Settings;
+use refusals::refusal::Refusal;
 
 // Room for the text of any job: 64 bytes for the first line, and for that of each of 256 nodes.
 pub const ROOM: usize = 16_448;
@@ -30,21 +31,28 @@ fn settings_in(bytes: &[u8]) -> Settings
 }
 
 // Writes what a solve answered and left in its two vectors.
-fn tell(solved: Solved, estimate: &[f64], residual: &[f64], text: &mut [u8]) -> usize
+fn tell(
+    answer: Result<Summary, Refusal>,
+    estimate: &[f64],
+    residual: &[f64],
+    text: &mut [u8],
+) -> usize
     requires { (length estimate.now ≤ 256) × (length residual.now ≡ length estimate.now) × Roomy text.old }
-    ensures { Grown 0 (answer_text solved estimate.now residual.now) text.old result text.new }
+    ensures { Grown 0 (answer_text (solved_for answer) estimate.now residual.now) text.old result text.new }
 {
-    if solved.refusal != 0 {
-        return job_text::append_refused(text, 0, solved.refusal);
+    match answer {
+        Ok(solve) => {
+            let next = job_text::append_done(
+                text,
+                0,
+                solve.push_count,
+                solve.nodes_visited,
+                solve.residual_norm,
+            );
+            job_text::append_nodes(text, next, estimate, residual)
+        }
+        Err(refusal) => job_text::append_refused(text, 0, refusal.into()),
     }
-    let next = job_text::append_done(
-        text,
-        0,
-        solved.push_count,
-        solved.nodes_visited,
-        solved.residual_norm,
-    );
-    job_text::append_nodes(text, next, estimate, residual)
 }
 
 // Solves, and writes the text.
@@ -72,11 +80,11 @@ fn solve_and_tell(
     requires solve_long { SolveLong n (solve_lent estimate.old residual.old degrees.old priorities.old nodes.old queued.old visited.old) }
     ensures { writes (job_of n from.now to.now weight.now sources.now settings) text.old result text.new }
 {
-    let solved = solve_multi_source::links::solve_multi_source_links(
+    let answer = solve_multi_source::links::solve_multi_source_links(
         n, from, to, weight, sources, settings, estimate, residual, starts, columns, weights,
         degrees, priorities, nodes, queued, visited,
     );
-    tell(solved, estimate, residual, text)
+    tell(answer, estimate, residual, text)
 }
 
 // Lends the vectors, the degrees, the queue and the marks.
@@ -172,10 +180,10 @@ fn read_and_solve(
     requires from_len { (length from.old ≡ links_in bytes.now) × (length sources.old ≡ sources_in bytes.now) }
     ensures { writes (job_in bytes.now) text.old result text.new }
 {
-    job_fields::read_words(bytes, 56, 16, from);
-    job_fields::read_words(bytes, 60, 16, to);
-    job_fields::read_floats(bytes, 64, 16, weight);
-    job_fields::read_words(bytes, 56 + 16 * from.len(), 4, sources);
+    job_fields::read_fields(bytes, 56, 16, from);
+    job_fields::read_fields(bytes, 60, 16, to);
+    job_fields::read_fields(bytes, 64, 16, weight);
+    job_fields::read_fields(bytes, 56 + 16 * from.len(), 4, sources);
     solve_links(
         job_fields::word(bytes, 0),
         from,
@@ -214,7 +222,7 @@ pub fn run(bytes: &[u8], text: &mut [u8; ROOM]) -> usize
     ensures prefix_len { IsPrefixLen result text.new }
 {
     if !job_fields::is_shaped(bytes) {
-        return job_text::append_refused(text, 0, 8);
+        return job_text::append_refused(text, 0, Refusal::UnsoundJob.into());
     }
     run_shaped(bytes, text)
 }

@@ -1,3 +1,2 @@
 -- The laws that the proofs of `job_fields` share.
 pub mod Shapes
-pub mod Steps

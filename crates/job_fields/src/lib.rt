@@ -1,27 +1,17 @@
 // The fields of a job's bytes.
 #![tactic(auto)]
 
-ghost use Rattle.std.specs.Prelude.{◌≡◌, ◌+◌, ◌*◌, ◌≤◌, ◌<◌, length, eqb};
-ghost use Rattle.job_fields.specs.Fields.{word_at, float_at, words_at, floats_at};
+ghost use Rattle.std.specs.Prelude.{◌≡◌, ◌+◌, ◌*◌, ◌≤◌, ◌<◌, ℕ, List, length, eqb};
+ghost use Rattle.numbers.specs.Tables.{tabulate};
+ghost use Rattle.job_fields.specs.Fields.{word_at, float_at};
 ghost use Rattle.job_fields.specs.Shape.{links_in, sources_in, offsets, limits, shaped};
-
-// A byte above a number of at most three.
-fn joined(byte: u8, above: u32) -> u32
-    requires { above < 0x100_0000 }
-    ensures { (result ≡ byte + 256 * above) × (result < 256 * (above + 1)) }
-{
-    byte as u32 + 256 * above
-}
 
 // The u32 at a place.
 pub fn word(bytes: &[u8], at: usize) -> u32
     requires { at + 4 ≤ length bytes.now }
     ensures { result ≡ word_at bytes.now at }
 {
-    let last = joined(bytes[at + 3], 0);
-    let third = joined(bytes[at + 2], last);
-    let second = joined(bytes[at + 1], third);
-    joined(bytes[at], second)
+    u32::from_le_bytes([bytes[at], bytes[at + 1], bytes[at + 2], bytes[at + 3]])
 }
 
 // The f64 at a place.
@@ -29,9 +19,47 @@ pub fn float(bytes: &[u8], at: usize) -> f64
     requires { at + 8 ≤ length bytes.now }
     ensures { result ≡ float_at bytes.now at }
 {
-    let low = word(bytes, at) as u64;
-    let high = word(bytes, at + 4) as u64;
-    numbers::float_of(low + 0x1_0000_0000 * high)
+    numbers::float_of(u64::from_le_bytes([
+        bytes[at],
+        bytes[at + 1],
+        bytes[at + 2],
+        bytes[at + 3],
+        bytes[at + 4],
+        bytes[at + 5],
+        bytes[at + 6],
+        bytes[at + 7],
+    ]))
+}
+
+// A type of fields: how many bytes a field has, and which value it is at a place.
+pub trait Field: Copy {
+    ghost wide: { ℕ };
+
+    ghost value_at: { List ℕ → ℕ → Self };
+
+    fn read(bytes: &[u8], at: usize) -> Self
+        requires { at + wide ≤ length bytes.now }
+        ensures { result ≡ value_at bytes.now at };
+}
+
+impl Field for u32 {
+    ghost wide = { 4 };
+
+    ghost value_at = { word_at };
+
+    fn read(bytes: &[u8], at: usize) -> u32 {
+        word(bytes, at)
+    }
+}
+
+impl Field for f64 {
+    ghost wide = { 8 };
+
+    ghost value_at = { float_at };
+
+    fn read(bytes: &[u8], at: usize) -> f64 {
+        float(bytes, at)
+    }
 }
 
 // Whether the three offsets are as they have to be.
@@ -72,26 +100,12 @@ pub fn is_shaped(bytes: &[u8]) -> bool
     has_length(bytes) & (has_offsets(bytes) & (has_limits(bytes) & (word(bytes, 52) < 2)))
 }
 
-// Fills a list with the u32 from a place on, each so many bytes behind the one before. The last lies in the bytes.
-pub fn read_words(bytes: &[u8], at: usize, step: usize, list: &mut [u32])
-    requires { at + step * length list.old + 4 ≤ length bytes.now + step }
-    ensures { list.new ≡ words_at bytes.now at step (length list.old) }
+// Fills a list with the fields from a place on, each so many bytes behind the one before. The last lies in the bytes.
+pub fn read_fields<F: Field>(bytes: &[u8], at: usize, step: usize, list: &mut [F])
+    requires { at + step * length list.old + F.wide ≤ length bytes.now + step }
+    ensures { list.new ≡ tabulate (length list.old) (λ i. F.value_at bytes.now (at + step * i)) }
 {
-    let mut i: usize = 0;
-    while i < list.len() {
-        list[i] = word(bytes, at + step * i);
-        i += 1;
-    }
-}
-
-// Fills a list with the f64 from a place on, likewise.
-pub fn read_floats(bytes: &[u8], at: usize, step: usize, list: &mut [f64])
-    requires { at + step * length list.old + 8 ≤ length bytes.now + step }
-    ensures { list.new ≡ floats_at bytes.now at step (length list.old) }
-{
-    let mut i: usize = 0;
-    while i < list.len() {
-        list[i] = float(bytes, at + step * i);
-        i += 1;
+    for i in 0..list.len() {
+        list[i] = F::read(bytes, at + step * i);
     }
 }

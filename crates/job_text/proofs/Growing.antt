@@ -1,24 +1,13 @@
--- A text that grows by parts: a part that is pasted behind it, one part after another, and the whole buffer by the part. Assumes nothing.
+-- A text that grows by parts: no part, one part after another, and the whole buffer by the part. Assumes nothing.
 use Prim.Native.Nat.{ℕ, ◌+◌, ◌≤◌}
-use native.Mathlib.Nat.{le_refl, add-zero, add_assoc}
+use native.Mathlib.Nat.{add-zero, add_assoc}
 use native.Mathlib.Omega.{arith}
 use mathlib.Core.List.{List, [], ◌++◌, append_assoc, append-nil}
 use mathlib.Core.Path.{◌≡◌, refl, sym, ap, subst, ◌∙◌}
 use lib.ListN.{length, take, drop, take-append-drop, length-take, length-append}
-use lib.Seq.{paste, length-paste, take-paste, drop-paste, take-length, length-take-le, drop-drop}
+use lib.Seq.{length-take-le, drop-drop}
 use Rattle.io.specs.Counts.{IsPrefixLen}
 use Rattle.job_text.specs.Text.{Grown}
-
--- a part behind the first `at` bytes
-pub pasted_grown : (text : List ℕ) (at : ℕ) (part : List ℕ) → at + length part ≤ length text
-    → Grown at part text (at + length part) (paste text at part (length part))
-pasted_grown text at part room =
-    record {
-      next = refl;
-      same_room = length-paste text at part (length part) room (le_refl _);
-      holds = take-paste text at part (length part) (omega arith) (le_refl _) ∙ ap (λ (s : List ℕ). take at text ++ s) (take-length part);
-      behind = drop-paste text at part (length part) (omega arith) (le_refl _);
-    }
 
 -- no part
 pub grown_none : (at : ℕ) (text : List ℕ) → Grown at [] text at text

@@ -10,12 +10,9 @@ pub fn append(text: &mut [u8], at: usize, part: &[u8]) -> usize
     requires { at + length part.now ≤ length text.old }
     ensures { Grown at part.now text.old result text.new }
 {
-    let mut i = 0;
-    while i < part.len() {
-        text[at + i] = part[i];
-        i += 1;
-    }
-    at + i
+    let next = at + part.len();
+    text[at..next].copy_from_slice(part);
+    next
 }
 
 // A whole number in decimal.
@@ -28,7 +25,8 @@ pub fn append_decimal(text: &mut [u8], at: usize, n: u64) -> usize
     append(text, at, &digits[..k])
 }
 
-// The ASCII code of a hex digit.
+// The ASCII code of a hex digit. It is ours, and not `io::hex`, since the must-fail edit `capital_hex` has to change a
+// digit here.
 fn hex_digit(d: u64) -> u8
     requires { d < 16 }
     ensures { result ≡ hex_digit_ascii d }
@@ -40,10 +38,8 @@ fn hex_digit(d: u64) -> u8
 fn spell(n: u64, room: &mut [u8])
     ensures { room.new ≡ last_digits 16 (length room.old) n }
 {
-    let mut i = room.len();
     let mut rest = n;
-    while i > 0 {
-        i -= 1;
+    for i in (0..room.len()).rev() {
         room[i] = hex_digit(rest % 16);
         rest /= 16;
     }
@@ -108,10 +104,8 @@ pub fn append_nodes(text: &mut [u8], at: usize, estimate: &[f64], residual: &[f6
     ensures { Grown at (node_lines 0 estimate.now residual.now) text.old result text.new }
 {
     let mut next = at;
-    let mut v: usize = 0;
-    while v < estimate.len() {
+    for v in 0..estimate.len() {
         next = append_node(text, next, v as u64, estimate[v], residual[v]);
-        v += 1;
     }
     next
 }

@@ -1,32 +1,28 @@
 -- The ones of the words, counted word by word, are as many as the nodes that are marked. Assumes nothing.
 use mathlib.Core.Path.{◌≡◌, refl, sym, ap, ap₂, ◌∙◌, subst}
 use mathlib.Core.Bool.{Bool, false, cond}
-use mathlib.Core.List.{List, [], ◌∷◌, ◌++◌}
+use mathlib.Core.List.{List, [], ◌∷◌}
 use Prim.Native.Nat.{ℕ, zero, suc, ◌+◌, ◌*◌, ◌/◌, ◌%◌, ◌^◌, ◌<◌, ◌≤◌, suc-le-suc, zero-le}
-use native.Mathlib.Nat.{add-zero, add-suc, zero-add, add_assoc, add_left_comm, mod-lt, zero-lt-suc, le_refl, le-suc, le_trans, div-one}
+use native.Mathlib.Nat.{add-zero, add-suc, zero-add, add_left_comm, mod-lt, zero-lt-suc, le_refl, le-suc, le_trans, div-one}
 use native.Mathlib.Numerals.{add-one, one-add}
 use native.Mathlib.Omega.{arith}
-use lib.ListN.{length, get_or, take}
-use lib.Seq.{take-suc}
+use lib.ListN.{length, get_or}
 use lib.Dec.{eqb}
 use lib.Pow.{shr_lt, shr-shr}
 use lib.Arith.{lt-one}
 use lib.Count.{ones, ones_step}
+use Rattle.std.proofs.Common.{sum, map}
+use Rattle.std.proofs.lemmas.List.Sums.{sum_by-cons}
 use Rattle.marks.specs.Marks.{bit, marked, all_ones, how_many}
 use Rattle.marks.proofs.Bits.{zero_or_one}
 
 -- ---- word by word
-all_ones_append : (s t : List ℕ) → all_ones (s ++ t) ≡ all_ones s + all_ones t
-unfolding all_ones
-all_ones_append [] t = sym (zero-add (all_ones t))
-all_ones_append (w ∷ s) t = ap (λ (x : ℕ). ones w + x) (all_ones_append s t) ∙ sym (add_assoc (ones w) (all_ones s) (all_ones t))
 
--- one word more
-pub all_ones_more : (ws : List ℕ) (i : ℕ) → i < length ws → all_ones (take (i + 1) ws) ≡ all_ones (take i ws) + ones (get_or ws i 0)
+-- what `count` adds up
+pub all_ones_sum : (ws : List ℕ) → sum (map ones ws) ≡ all_ones ws
 unfolding all_ones
-all_ones_more ws i h =
-    ap (λ (x : ℕ). all_ones (take x ws)) (add-one i) ∙ ap all_ones (take-suc ws i 0 h) ∙ all_ones_append (take i ws) (get_or ws i 0 ∷ [])
-    ∙ ap (λ (x : ℕ). all_ones (take i ws) + x) (add-zero (ones (get_or ws i 0)))
+all_ones_sum [] = refl
+all_ones_sum (w ∷ ws) = sum_by-cons (λ x. x) (ones w) (map ones ws) ∙ ap (λ (x : ℕ). ones w + x) (all_ones_sum ws)
 
 -- ---- node by node
 

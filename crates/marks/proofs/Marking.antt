@@ -69,7 +69,7 @@ pub test_law : (ws : List ℕ) (v : ℕ) → eqb (bit_and (get_or ws (v / 64) 0 
 unfolding marked
 test_law ws v = ap (λ (x : ℕ). eqb x 1) (and_mask (get_or ws (v / 64) 0 / 2 ^ (v % 64)) 1)
 
--- words that are all 0, as `clear` leaves them, mark nobody
+-- words that are all 0 mark nobody
 pub none_marked : (n u : ℕ) → marked (replicate n 0) u ≡ false
 unfolding marked
 none_marked n u =

@@ -2,7 +2,7 @@
 // node div 64.
 #![tactic(auto)]
 
-ghost use Rattle.std.specs.Prelude.{true, false, ◌≡◌, ◌*◌, ◌/◌, ◌<◌, ◌≤◌, length, replicate};
+ghost use Rattle.std.specs.Prelude.{true, false, ◌≡◌, ◌*◌, ◌/◌, ◌<◌, ◌≤◌, length};
 ghost use Rattle.marks.specs.Marks.{marked, WithMark, all_ones, how_many};
 
 // Whether the node v is marked.
@@ -25,7 +25,8 @@ pub fn mark(words: &mut [u64], v: u32)
     words[at] = word | (1 << (v % 64));
 }
 
-// Takes the mark of the node v away.
+// Takes the mark of the node v away. This and `mark` are two functions: one with the mark as a parameter
+// would choose between two masks at each call.
 pub fn unmark(words: &mut [u64], v: u32)
     requires { v / 64 < length words.old }
     ensures { WithMark false words.old words.new v }
@@ -40,22 +41,5 @@ pub fn count(words: &[u64]) -> u32
     requires { length words.now ≤ 1048576 }
     ensures { (result ≡ all_ones words.now) × (result ≡ how_many (64 * length words.now) (marked words.now)) }
 {
-    let mut n: u32 = 0;
-    let mut i = 0;
-    while i < words.len() {
-        n += u64::count_ones(words[i]);
-        i += 1;
-    }
-    n
-}
-
-// Takes all marks away.
-pub fn clear(words: &mut [u64])
-    ensures { words.new ≡ replicate (length words.old) 0 }
-{
-    let mut i = 0;
-    while i < words.len() {
-        words[i] = 0;
-        i += 1;
-    }
+    words.iter().map(|word| word.count_ones()).sum()
 }

@@ -3,10 +3,8 @@
 use mathlib.Core.Path.{◌≡◌, refl, sym, subst}
 use mathlib.Core.Bool.{Bool, true, false}
 use Prim.Native.Nat.{ℕ, ◌+◌, ◌-◌, ◌*◌, ◌/◌, ◌%◌, ◌^◌, ◌≤◌, ◌<◌}
-use native.Mathlib.Nat.{lt_of_lt_of_le, le_of_suc-le-suc}
 use native.Mathlib.Omega.{arith}
 use lib.Dec.{leb}
-use lib.Pow.{pow_mono}
 use mir.Val.{bool_byte}
 use borrow.Author.Tests.{leb-true, leb-false}
 use Rattle.norm.specs.Steps.{WholeRoot}
@@ -54,14 +52,6 @@ pub record BroughtDown (s i below root rest : ℕ) : Type 0 where
   pub most : rest ≤ 2 * root
   pub part : (root * root + rest) * 2 ^ 54 + below ≡ s * 4 ^ i
 
--- before the first turn
-pub start : (s : ℕ) → s < 2 ^ 54 → BroughtDown s 0 s 0 0
-start s h = record { turns = omega arith; digits = omega arith; tail = h; most = omega arith; part = omega arith }
-
--- before the last turn the root has at most 26 digits
-pub room : {s i below root rest : ℕ} → BroughtDown s i below root rest → i < 27 → root < 2 ^ 26
-room {i = i} h l = lt_of_lt_of_le h.digits (pow_mono {i = i} {j = 26} (le_of_suc-le-suc l))
-
 -- a turn
 pub turn : {s i below root rest root' rest' : ℕ} → BroughtDown s i below root rest → i < 27 → WholeRoot (4 * (root * root + rest) + below / 2 ^ 52) root' rest' → root' ≤ 2 * root + 1
     → BroughtDown s (i + 1) (below % 2 ^ 52 * 4) root' rest'
@@ -72,10 +62,3 @@ turn {s} {i} h l w d = record {
   most = w.most;
   part = omega (arith, next_four s i, w.is);
 }
-
--- after the last turn nothing is below
-pub last : {s i below root rest : ℕ} → BroughtDown s i below root rest → 27 ≤ i → WholeRoot s root rest × (root < 2 ^ 27)
-last {s} {i} {below} {root} {rest} h l =
-    let e : i ≡ 27 = omega arith in
-    let z : BroughtDown s 27 below root rest = subst (λ (n : ℕ). BroughtDown s n below root rest) e h in
-    (record { is = omega (arith, z.part); most = h.most }, z.digits)

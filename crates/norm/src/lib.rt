@@ -44,11 +44,9 @@ fn whole_root(s: u64) -> Part
 {
     let mut part = Part { root: 0, rest: 0 };
     let mut below = s;
-    let mut i: u64 = 0;
-    while i < 27 {
+    for _ in 0..27u64 {
         part = next_digit(part, below / 0x10_0000_0000_0000);
         below = below % 0x10_0000_0000_0000 * 4;
-        i += 1;
     }
     part
 }
@@ -143,18 +141,11 @@ fn root_bits(b: u64) -> u64
     }
 }
 
-// A NaN.
-fn not_a_number() -> f64
-    ensures { result ≡ nan }
-{
-    0.0 / 0.0
-}
-
 // The square root, rounded to the nearest f64: a NaN for a NaN and for whatever is below zero.
 pub fn square_root(x: f64) -> f64
     ensures { Root x result }
 {
-    if x != x {
+    if x.is_nan() {
         return x;
     }
     let b = f64::to_bits(x);
@@ -165,7 +156,7 @@ pub fn square_root(x: f64) -> f64
         return x;
     }
     if 0x8000_0000_0000_0000 < b {
-        return not_a_number();
+        return f64::NAN;
     }
     if 0x7ff0_0000_0000_0000 <= b {
         return x;
@@ -177,12 +168,6 @@ pub fn square_root(x: f64) -> f64
 pub fn compute_residual_norm(residual: &[f64]) -> f64
     ensures { Norm residual.now result }
 {
-    let mut sum = 0.0;
-    let mut i: usize = 0;
-    while i < residual.len() {
-        let v = residual[i];
-        sum = sum + v * v;
-        i += 1;
-    }
+    let sum = residual.iter().copied().fold(0.0, |sum, v| sum + v * v);
     square_root(sum)
 }

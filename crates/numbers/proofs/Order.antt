@@ -2,14 +2,14 @@
 -- The idea: of two floats that are no NaN each comparison is that of two natural numbers, `side x y` and `side y x`. Assumes nothing.
 use mathlib.Core.Path.{◌≡◌, refl, sym, ap, ap₂, ◌∙◌, subst}
 use mathlib.Core.Logic.{◌⊎◌, inl, inr}
-use mathlib.Core.Bool.{Bool, true, false, not, ◌&&◌, ◌||◌, cond, and-true, and-or_distrib_left, true≢false}
+use mathlib.Core.Bool.{Bool, true, false, not, ◌&&◌, ◌||◌, cond, and-true, and-or_distrib_left, false≢true}
 use Prim.Native.Nat.{ℕ, ◌+◌, ◌*◌, ◌≤◌, ◌<◌}
 use native.Mathlib.Nat.{le_refl, le_trans, le_of_lt, le_of_eq, add-zero, zero-add, add_comm, mul_comm, mul_assoc, mul_left_comm, add-mul, zero-mul, mul-le-mul_right, le_of_mul-le-mul_right}
 use native.Mathlib.Decide.{dec_le}
 use native.Mathlib.Omega.{arith}
 use lib.IntN.{ℤ}
 use lib.Dec.{T, leb, ltb, eqb, ltb→lt, lt→ltb, eqb→eq, leb→le, le→leb}
-use lib.Ieee.{Float, nan, inf, fin, up, down, below, level, lt, eq, ne, le, is_nan}
+use lib.Ieee.{Float, nan, inf, fin, up, down, below, level, lt, eq, le, is_nan}
 use lib.Ieee.Fits.{down_pos, and_i, and_l, and_r, eq→eqb}
 use borrow.Author.Tests.{le-ltb, not-true}
 use Rattle.numbers.proofs.Tests.{to_true, or_cases, or_left, or_right, same_test}
@@ -168,12 +168,12 @@ le-number_left x y h = not-true (is_nan x) (to_true (not (is_nan x)) (and_l (not
 pub le-number_right : (x y : Float) → T (le x y) → is_nan y ≡ false
 le-number_right x y h = not-true (is_nan y) (to_true (not (is_nan y)) (and_r (not (is_nan x)) (not (is_nan y)) (le_sides x y h).0))
 
--- and what equals itself
-pub no_nan : (x : Float) → ne x x ≡ false → T (not (is_nan x))
-unfolding ne is_nan
-no_nan nan h = absurd (true≢false h)
-no_nan (inf s) h = tt
-no_nan (fin s m e) h = tt
+-- the one value that is a NaN
+pub only_nan : (x : Float) → is_nan x ≡ true → x ≡ nan
+unfolding is_nan
+only_nan nan h = refl
+only_nan (inf s) h = absurd (false≢true h)
+only_nan (fin s m e) h = absurd (false≢true h)
 
 -- two numbers
 both_numbers : (x y : Float) → is_nan x ≡ false → is_nan y ≡ false → T (numbers x y)

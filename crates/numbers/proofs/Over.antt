@@ -1,13 +1,12 @@
 -- Lists that a loop writes from a place on, one store a turn: after the stores up to place v the list is `over v new old`.
 -- Assumes nothing.
-use mathlib.Core.Path.{◌≡◌, refl, sym, ap, ◌∙◌}
+use mathlib.Core.Path.{◌≡◌, refl, ap, ◌∙◌}
 use mathlib.Core.List.{List, [], ◌∷◌, ◌++◌, append-nil}
-use Prim.Native.Nat.{ℕ, zero, suc, ◌+◌, ◌-◌, ◌≤◌, ◌<◌}
+use Prim.Native.Nat.{ℕ, zero, suc, ◌+◌, ◌≤◌, ◌<◌}
 use native.Mathlib.Nat.{not-suc-le-zero, le_of_suc-le-suc}
 use native.Mathlib.Numerals.{add-one}
-use native.Mathlib.Omega.{arith}
-use lib.ListN.{length, get_or, set, take, drop, drop_of_length-le, replicate, length-set, length-replicate, get_or-replicate, length-append, length-take, take-append-drop}
-use lib.Seq.{take_all, take_at, length-take-le, get_or-append-add}
+use lib.ListN.{length, get_or, set, take, drop, drop_of_length-le}
+use lib.Seq.{take_all}
 
 module _ {A : Type 0} where
   -- the first v of `new`, and `old` behind them
@@ -47,53 +46,3 @@ module _ {A : Type 0} where
   -- all is written, to the end of the new list
   pub over_whole : (v : ℕ) (new old : List A) → length old ≤ v → length new ≤ v → over v new old ≡ new
   over_whole v new old h k = over_all v new old h ∙ take_all v new k
-
--- ---- a list whose places from s on become z
-
-module _ {A : Type 0} (s : ℕ) (z : A) (old : List A) where
-  -- the new list
-  unfoldable pub cleared : List A
-  cleared = take s old ++ replicate (length old - s) z
-
-  -- what a loop over i has written into l
-  pub record Clearing (i : ℕ) (l : List A) : Type 0 where
-    pub from : s ≤ i
-    pub to : i ≤ length old
-    pub long : length l ≡ length old
-    pub is : l ≡ over i cleared old
-
-  -- it has as many places
-  length-cleared : s ≤ length old → length cleared ≡ length old
-  unfolding cleared
-  length-cleared h = simp (length-append, length-replicate, length-take) (omega arith)
-
-  -- at first nothing
-  pub clearing_start : s ≤ length old → Clearing s old
-  unfolding over cleared
-  clearing_start h = record {
-    from = omega arith;
-    to = h;
-    long = refl;
-    is = sym (rw (take_at (take s old) (replicate (length old - s) z) s (length-take-le s old h)) (take-append-drop s old));
-  }
-
-  -- z stands at each place from s on
-  cleared_at : (i : ℕ) → s ≤ i → i < length old → get_or cleared i z ≡ z
-  unfolding cleared
-  cleared_at i h k =
-      let e : i ≡ length (take s old) + (i - s) = omega (arith, length-take-le s old (omega arith)) in
-      rw (e, get_or-append-add) (get_or-replicate (length old - s) (i - s) z z (omega arith))
-
-  -- a store of z
-  pub clearing_more : (i : ℕ) (l : List A) → Clearing i l → i < length old → Clearing (i + 1) (set l i z)
-  clearing_more i l c h = record {
-    from = omega arith;
-    to = omega arith;
-    long = simp length-set c.long;
-    is = rw c.is (over_more i cleared old z z (rw (length-cleared (omega arith)) h) h (sym (cleared_at i c.from h)));
-  }
-
-  -- at last all
-  pub clearing_end : (i : ℕ) (l : List A) → Clearing i l → length old ≤ i → l ≡ take s old ++ replicate (length old - s) z
-  unfolding cleared
-  clearing_end i l c h = c.is ∙ over_whole i cleared old h (rw (length-cleared (omega arith)) h)

@@ -9,9 +9,8 @@ use Rattle.queue.specs.Heap.{waiting}
 use Rattle.queue.specs.declared.WorkQueue.{WorkQueue}
 use Rattle.rules.specs.Ways.{Way, effective, degree_of}
 use Rattle.rules.specs.Rules.{at, queued, absorb, offer}
-use Rattle.pushes.specs.States.{progress, state_in}
+use Rattle.pushes.specs.States.{Progress, progress, state_in}
 use Rattle.pushes.specs.Promises.{Absorbed}
-use Rattle.pushes.specs.declared.Progress.{Progress}
 
 -- v was offered
 pub offer_state : (way : Way) (n v : ℕ) (degree : Float) (residual : List Float) (q q' : WorkQueue) (ps : List Float) (ns : List ℕ) (ps' : List Float)

@@ -1,6 +1,6 @@
 -- A row handed out entry by entry, as the buffers show it. The idea: handing out the entries that are left gives what handing out all of them gave at the
 -- start. Assumes nothing.
-use Prim.Native.Nat.{ℕ, suc, ◌+◌, ◌≤◌, ◌<◌}
+use Prim.Native.Nat.{ℕ, suc, ◌+◌, ◌<◌}
 use native.Mathlib.Numerals.{add-one}
 use native.Mathlib.Omega.{arith}
 use mathlib.Core.Bool.{Bool}
@@ -12,18 +12,19 @@ use lib.Ieee.{Float, nan}
 use Rattle.graph.specs.Rows.{entry, entries_of}
 use Rattle.rules.specs.Ways.{Way, share_of}
 use Rattle.rules.specs.Rules.{State, at, each, gain, offer, pass}
-use Rattle.pushes.specs.States.{Pending, state_with}
+use Rattle.pushes.specs.States.{state_with, pending_in, SameFrontier}
 use Rattle.pushes.specs.Buffers.{Lent}
 use Rattle.pushes.specs.Meant.{Along}
+use Rattle.pushes.specs.declared.Frontier.{Frontier}
+use Rattle.pushes.specs.declared.Graph.{Graph}
 
 -- what holds at the entry i
-pub record Spreading (backward : Bool) (rest degree : Float) (columns : List ℕ) (weights degrees out_degrees : List Float) (w₀ w : Pending) (i : ℕ) : Type 0 where
-  pub up_to : i ≤ length columns
-  pub lent : Lent (length degrees) w
-  pub same_words : length w.queued ≡ length w₀.queued
-  pub left : (way : Way) → Along backward degrees out_degrees way → (estimate : List Float) (pushes : ℕ) (visited : List ℕ)
-      → each (pass way rest degree) (entries_of (drop i columns) (drop i weights)) (state_with (length degrees) estimate pushes visited w)
-      ≡ each (pass way rest degree) (entries_of columns weights) (state_with (length degrees) estimate pushes visited w₀)
+pub record Spreading (g : Graph) (rest degree : Float) (columns : List ℕ) (weights : List Float) (f₀ f : Frontier) (i : ℕ) : Type 0 where
+  pub lent : Lent (length g.degrees.now) (pending_in f)
+  pub same_frontier : SameFrontier f₀ f
+  pub left : (way : Way) → Along g.backward g.degrees.now g.out_degrees.now way → (estimate : List Float) (pushes : ℕ) (visited : List ℕ)
+      → each (pass way rest degree) (entries_of (drop i columns) (drop i weights)) (state_with (length g.degrees.now) estimate pushes visited (pending_in f))
+      ≡ each (pass way rest degree) (entries_of columns weights) (state_with (length g.degrees.now) estimate pushes visited (pending_in f₀))
 
 -- the first of the entries that are left
 pub one_passes : (backward : Bool) (rest degree : Float) (columns : List ℕ) (weights degrees out_degrees : List Float) (way : Way) → Along backward degrees out_degrees way

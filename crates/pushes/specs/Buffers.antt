@@ -1,11 +1,12 @@
 -- Inner: no public promise cites it.
 -- What holds of the buffers of a solve among n nodes. Assumes nothing.
 use Rattle.std.specs.Prelude.{ℕ, ◌*◌, ◌≤◌, ◌<◌, Bool, List, ◌≡◌, length, get_or, Float}
-use Rattle.std.specs.Borrow.{Bor}
-use denote.Triple.Both.{Both}
 use Rattle.graph.specs.Store.{chosen, degrees_in, Rowed}
 use Rattle.queue.specs.Heap.{Heap}
-use Rattle.pushes.specs.States.{Holding, Pending, pending_of}
+use Rattle.pushes.specs.declared.Frontier.{Frontier}
+use Rattle.pushes.specs.declared.Graph.{Graph}
+use Rattle.pushes.specs.declared.Tally.{Tally}
+use Rattle.pushes.specs.States.{Holding, Pending, pending_of, holding_in}
 
 -- the residual and the queue have a place for each node
 pub record Lent (n : ℕ) (w : Pending) : Type 0 where
@@ -39,16 +40,13 @@ pub record Lists : Type 0 where
 abbrev pub lists_of : List ℕ → List ℕ → List ℕ → List Float → List Float → List Float → List Float → Lists
 lists_of s c c' w w' d o = record { starts = s; columns = c; reverse_columns = c'; weights = w; reverse_weights = w'; degrees = d; out_degrees = o }
 
--- a slice that a call reads, as its `ensures` names it
-abbrev pub Shared : Type 0 → Type 0
-Shared A = Both (Bor (List A)) (Bor (List A))
+-- how many nodes a graph has
+abbrev pub nodes_in : Graph → ℕ
+nodes_in g = length g.degrees.now
 
--- what the slices of a call hold: in its `requires`, and in its `ensures`
-abbrev pub lists_in : Bor (List ℕ) → Bor (List ℕ) → Bor (List ℕ) → Bor (List Float) → Bor (List Float) → Bor (List Float) → Bor (List Float) → Lists
-lists_in s c c' w w' d o = lists_of s.now c.now c'.now w.now w'.now d.now o.now
-
-abbrev pub lists : Shared ℕ → Shared ℕ → Shared ℕ → Shared Float → Shared Float → Shared Float → Shared Float → Lists
-lists s c c' w w' d o = lists_in s.entry c.entry c'.entry w.entry w'.entry d.entry o.entry
+-- what its slices hold
+abbrev pub lists_in : Graph → Lists
+lists_in g = lists_of g.starts.now g.columns.now g.reverse_columns.now g.weights.now g.reverse_weights.now g.degrees.now g.out_degrees.now
 
 -- the lists of the direction
 abbrev pub columns_by : Bool → Lists → List ℕ
@@ -81,3 +79,14 @@ pub record Room (n : ℕ) (estimate residual priorities : List Float) (nodes que
   pub paired : length nodes ≡ n
   pub queued_room : n ≤ 64 * length queued
   pub visited_room : n ≤ 64 * length visited
+
+-- ---- the same of the structs of a call
+
+abbrev pub RowsIn : Graph → Type 0
+RowsIn g = Rows (nodes_in g) g.backward (lists_in g)
+
+abbrev pub ReadyIn : Graph → Frontier → Tally → Type 0
+ReadyIn g f t = Ready (nodes_in g) g.backward (lists_in g) (holding_in f t)
+
+abbrev pub RoomIn : ℕ → Frontier → Tally → Type 0
+RoomIn n f t = Room n t.estimate.now f.residual.now f.priorities.now f.nodes.now f.queued.now t.visited.now

@@ -4,7 +4,8 @@ use Rattle.std.specs.Prelude.{ℕ, suc, ◌<◌, Bool, List, ◌≡◌, length, 
 use Rattle.graph.specs.Rows.{Entry, row_in}
 use Rattle.rules.specs.Ways.{Way, share_of, degree_of}
 use Rattle.rules.specs.Rules.{at}
-use Rattle.pushes.specs.Buffers.{Lists, columns_by, weights_by}
+use Rattle.pushes.specs.declared.Graph.{Graph}
+use Rattle.pushes.specs.Buffers.{Lists, columns_by, weights_by, nodes_in, lists_in}
 
 -- every way
 abbrev pub Every : Way → Type 0
@@ -31,3 +32,7 @@ pub record Along (backward : Bool) (degrees out_degrees : List Float) (way : Way
 pub record Stands (n : ℕ) (backward : Bool) (l : Lists) (way : Way) : Type 0 where
   pub rows : (v : ℕ) → v < n → way.row v ≡ row_in (get_or l.starts v 0) (get_or l.starts (suc v) 0) (columns_by backward l) (weights_by backward l)
   pub shares : Shares n backward l.out_degrees way
+
+-- those that a graph of a call shows
+abbrev pub StandsIn : Graph → Way → Type 0
+StandsIn g = Stands (nodes_in g) g.backward (lists_in g)

@@ -1,14 +1,14 @@
 -- Inner: no public promise cites it.
 -- What the buffers of a solve stand for: the state of the rules. Assumes nothing.
-use Rattle.std.specs.Prelude.{ℕ, ◌≤◌, Bool, false, List, ◌≡◌, Float}
+use Rattle.std.specs.Prelude.{ℕ, ◌≤◌, Bool, false, List, ◌≡◌, length, Float}
 use Rattle.std.specs.Borrow.{MutBor}
-use denote.Triple.Both.{Both}
 use Rattle.numbers.specs.Tables.{tabulate}
 use Rattle.marks.specs.Marks.{marked}
 use Rattle.queue.specs.Heap.{waiting}
 use Rattle.queue.specs.declared.WorkQueue.{WorkQueue}
 use Rattle.rules.specs.Rules.{State}
-use Rattle.pushes.specs.declared.Progress.{Progress}
+use Rattle.pushes.specs.declared.Frontier.{Frontier}
+use Rattle.pushes.specs.declared.Tally.{Tally}
 
 -- which of n nodes are marked
 unfoldable pub marks_in : ℕ → List ℕ → List Bool
@@ -22,7 +22,12 @@ SameBeyond n words words' = (u : ℕ) → n ≤ u → marked words' u ≡ marked
 abbrev pub NoneBeyond : ℕ → List ℕ → Type 0
 NoneBeyond n words = (u : ℕ) → n ≤ u → marked words u ≡ false
 
--- a queue and a number of pushes
+-- the record of the queue, and how many pushes were made
+pub record Progress : Type 0 where
+  pub queue : WorkQueue
+  pub pushes : ℕ
+
+-- by its parts
 abbrev pub progress : WorkQueue → ℕ → Progress
 progress queue pushes = record { queue = queue; pushes = pushes }
 
@@ -58,20 +63,6 @@ holding p e r ps ns qs vs = record { p = p; estimate = e; residual = r; prioriti
 unfoldable pub state_of : ℕ → Holding → State
 state_of n h = state_in n h.estimate h.residual h.p h.priorities h.nodes h.visited
 
--- a slice that a call is lent to write, as its `ensures` names it
-abbrev pub Slice : Type 0 → Type 0
-Slice A = Both (MutBor (List A)) (MutBor (List A))
-
--- what the slices of a call hold: in its `requires`, and in its `ensures` before it and after it
-abbrev pub holding_in : Progress → MutBor (List Float) → MutBor (List Float) → MutBor (List Float) → MutBor (List ℕ) → MutBor (List ℕ) → MutBor (List ℕ) → Holding
-holding_in p e r ps ns qs vs = holding p e.now r.now ps.now ns.now qs.now vs.now
-
-abbrev pub holding_before : Progress → Slice Float → Slice Float → Slice Float → Slice ℕ → Slice ℕ → Slice ℕ → Holding
-holding_before p e r ps ns qs vs = holding_in p e.entry r.entry ps.entry ns.entry qs.entry vs.entry
-
-abbrev pub holding_after : Progress → Slice Float → Slice Float → Slice Float → Slice ℕ → Slice ℕ → Slice ℕ → Holding
-holding_after p e r ps ns qs vs = holding_in p e.exit r.exit ps.exit ns.exit qs.exit vs.exit
-
 -- ---- the part of it that the queue goes by
 
 -- the queue, its entries, the marks of who waits, and the residual
@@ -94,12 +85,31 @@ pending_of h = pending h.p.queue h.residual h.priorities h.nodes h.queued
 abbrev pub state_with : ℕ → List Float → ℕ → List ℕ → Pending → State
 state_with n estimate pushes visited w = state_in n estimate w.residual (progress w.queue pushes) w.priorities w.nodes visited
 
--- what the slices of a call hold: in its `requires`, and in its `ensures` before it and after it
-abbrev pub pending_in : WorkQueue → MutBor (List Float) → MutBor (List Float) → MutBor (List ℕ) → MutBor (List ℕ) → Pending
-pending_in q r ps ns qs = pending q r.now ps.now ns.now qs.now
+-- ---- what the structs of a call hold
 
-abbrev pub pending_before : WorkQueue → Slice Float → Slice Float → Slice ℕ → Slice ℕ → Pending
-pending_before q r ps ns qs = pending_in q r.entry ps.entry ns.entry qs.entry
+-- the frontier
+abbrev pub pending_in : Frontier → Pending
+pending_in f = pending f.queue f.residual.now f.priorities.now f.nodes.now f.queued.now
 
-abbrev pub pending_after : WorkQueue → Slice Float → Slice Float → Slice ℕ → Slice ℕ → Pending
-pending_after q r ps ns qs = pending_in q r.exit ps.exit ns.exit qs.exit
+-- the frontier and the tally
+abbrev pub progress_in : Frontier → Tally → Progress
+progress_in f t = progress f.queue t.pushes
+
+abbrev pub holding_in : Frontier → Tally → Holding
+holding_in f t = holding (progress_in f t) t.estimate.now f.residual.now f.priorities.now f.nodes.now f.queued.now t.visited.now
+
+-- a field that is a slice still is the same one, of the same length
+abbrev pub SameSlice : {A : Type 0} → MutBor (List A) → MutBor (List A) → Type 0
+SameSlice s s' = (s'.ghost_name ≡ s.ghost_name) × (length s'.now ≡ length s.now)
+
+-- those of the frontier are
+pub record SameFrontier (f f' : Frontier) : Type 0 where
+  pub residual : SameSlice f.residual f'.residual
+  pub priorities : SameSlice f.priorities f'.priorities
+  pub nodes : SameSlice f.nodes f'.nodes
+  pub queued : SameSlice f.queued f'.queued
+
+-- those of the tally are
+pub record SameTally (t t' : Tally) : Type 0 where
+  pub estimate : SameSlice t.estimate t'.estimate
+  pub visited : SameSlice t.visited t'.visited

@@ -1,13 +1,12 @@
 // The score of the target in a forward solve from one source, of a list of links.
 ghost use Rattle.std.specs.Prelude.{◌≡◌};
 ghost use Rattle.refusals.specs.Calls.{outcome_of};
-ghost use Rattle.calls.specs.Lent.{solve_lent, links_lent, solving};
+ghost use Rattle.calls.specs.Lent.{solve_lent, links_lent, solving, scored_for};
 ghost use Rattle.calls.specs.Outcomes.{given_links};
 ghost use Rattle.forward_push.specs.Outcomes.{query_single_entry};
 
-use calls::Scored;
 use refusals::Settings;
-use watching::Watch;
+use refusals::refusal::Refusal;
 
 pub fn query_single_entry_links(
     n: u32,
@@ -27,24 +26,24 @@ pub fn query_single_entry_links(
     nodes: &mut [u32],
     queued: &mut [u64],
     visited: &mut [u64],
-) -> Scored
-    ensures { outcome_of result (links_lent starts.new columns.new weights.new
+) -> Result<f64, Refusal>
+    ensures { outcome_of (scored_for result) (links_lent starts.new columns.new weights.new
         (solve_lent estimate.new residual.new degrees.new priorities.new nodes.new queued.new visited.new))
         ≡ query_single_entry (given_links solving n from.now to.now weight.now (links_lent starts.old columns.old weights.old
         (solve_lent estimate.old residual.old degrees.old priorities.old nodes.old queued.old visited.old)))
         source target settings }
 {
     let one = [source];
-    let c = checked_forward_links::checked_links(
+    let counts = checked_forward_links::checked_links(
         n,
         from,
         to,
         weight,
         &one,
         0,
-        Watch::Nobody,
+        None,
         settings,
-        0,
+        Ok(()),
         estimate,
         residual,
         starts,
@@ -56,5 +55,5 @@ pub fn query_single_entry_links(
         queued,
         visited,
     );
-    calls::answered(c.refusal, estimate, target)
+    calls::answered(counts, estimate, target)
 }

@@ -1,13 +1,12 @@
 // The score of the target in a forward solve from one source, of rows.
 ghost use Rattle.std.specs.Prelude.{◌≡◌};
 ghost use Rattle.refusals.specs.Calls.{outcome_of};
-ghost use Rattle.calls.specs.Lent.{solve_lent, solving};
+ghost use Rattle.calls.specs.Lent.{solve_lent, solving, scored_for};
 ghost use Rattle.calls.specs.Outcomes.{given_rows};
 ghost use Rattle.forward_push.specs.Outcomes.{query_single_entry};
 
-use calls::Scored;
 use refusals::Settings;
-use watching::Watch;
+use refusals::refusal::Refusal;
 
 pub fn query_single_entry_rows<'a>(
     n: u32,
@@ -24,23 +23,23 @@ pub fn query_single_entry_rows<'a>(
     nodes: &mut [u32],
     queued: &mut [u64],
     visited: &mut [u64],
-) -> Scored
-    ensures { outcome_of result (solve_lent estimate.new residual.new degrees.new priorities.new nodes.new queued.new visited.new)
+) -> Result<f64, Refusal>
+    ensures { outcome_of (scored_for result) (solve_lent estimate.new residual.new degrees.new priorities.new nodes.new queued.new visited.new)
         ≡ query_single_entry (given_rows solving n starts.now columns.now weights.now
         (solve_lent estimate.old residual.old degrees.old priorities.old nodes.old queued.old visited.old))
         source target settings }
 {
     let one = [source];
-    let c = checked_forward_rows::checked_rows(
+    let counts = checked_forward_rows::checked_rows(
         n,
         starts,
         columns,
         weights,
         &one,
         0,
-        Watch::Nobody,
+        None,
         settings,
-        0,
+        Ok(()),
         estimate,
         residual,
         degrees,
@@ -49,5 +48,5 @@ pub fn query_single_entry_rows<'a>(
         queued,
         visited,
     );
-    calls::answered(c.refusal, estimate, target)
+    calls::answered(counts, estimate, target)
 }

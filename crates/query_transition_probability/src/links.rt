@@ -1,14 +1,13 @@
 // The score of the source in a backward solve from one target, of a list of links.
 ghost use Rattle.std.specs.Prelude.{◌≡◌};
 ghost use Rattle.refusals.specs.Calls.{outcome_of};
-ghost use Rattle.calls.specs.Lent.{solve_lent, links_lent};
+ghost use Rattle.calls.specs.Lent.{solve_lent, links_lent, scored_for};
 ghost use Rattle.calls.specs.Outcomes.{given_links};
 ghost use Rattle.backward_push.specs.Lent.{back_lent, reversing};
 ghost use Rattle.backward_push.specs.Outcomes.{query_transition_probability};
 
-use calls::Scored;
 use refusals::Settings;
-use watching::Watch;
+use refusals::refusal::Refusal;
 
 pub fn query_transition_probability_links(
     n: u32,
@@ -32,8 +31,8 @@ pub fn query_transition_probability_links(
     nodes: &mut [u32],
     queued: &mut [u64],
     visited: &mut [u64],
-) -> Scored
-    ensures { outcome_of result (links_lent starts.new columns.new weights.new (back_lent reverse_starts.new reverse_columns.new reverse_weights.new out_degrees.new
+) -> Result<f64, Refusal>
+    ensures { outcome_of (scored_for result) (links_lent starts.new columns.new weights.new (back_lent reverse_starts.new reverse_columns.new reverse_weights.new out_degrees.new
         (solve_lent estimate.new residual.new in_degrees.new priorities.new nodes.new queued.new visited.new)))
         ≡ query_transition_probability (given_links reversing n from.now to.now weight.now
         (links_lent starts.old columns.old weights.old (back_lent reverse_starts.old reverse_columns.old reverse_weights.old out_degrees.old
@@ -41,7 +40,7 @@ pub fn query_transition_probability_links(
         source target settings }
 {
     let one = [target];
-    let c = checked_backward_links::checked_links(
+    let counts = checked_backward_links::checked_links(
         n,
         from,
         to,
@@ -49,9 +48,9 @@ pub fn query_transition_probability_links(
         &one,
         false,
         0,
-        Watch::Nobody,
+        None,
         settings,
-        0,
+        Ok(()),
         estimate,
         residual,
         starts,
@@ -67,5 +66,5 @@ pub fn query_transition_probability_links(
         queued,
         visited,
     );
-    calls::answered(c.refusal, estimate, source)
+    calls::answered(counts, estimate, source)
 }

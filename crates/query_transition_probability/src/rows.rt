@@ -1,14 +1,13 @@
 // The score of the source in a backward solve from one target, of rows.
 ghost use Rattle.std.specs.Prelude.{◌≡◌};
 ghost use Rattle.refusals.specs.Calls.{outcome_of};
-ghost use Rattle.calls.specs.Lent.{solve_lent};
+ghost use Rattle.calls.specs.Lent.{solve_lent, scored_for};
 ghost use Rattle.calls.specs.Outcomes.{given_rows};
 ghost use Rattle.backward_push.specs.Lent.{back_lent, reversing};
 ghost use Rattle.backward_push.specs.Outcomes.{query_transition_probability};
 
-use calls::Scored;
 use refusals::Settings;
-use watching::Watch;
+use refusals::refusal::Refusal;
 
 pub fn query_transition_probability_rows<'a>(
     n: u32,
@@ -29,8 +28,8 @@ pub fn query_transition_probability_rows<'a>(
     nodes: &mut [u32],
     queued: &mut [u64],
     visited: &mut [u64],
-) -> Scored
-    ensures { outcome_of result (back_lent reverse_starts.new reverse_columns.new reverse_weights.new out_degrees.new
+) -> Result<f64, Refusal>
+    ensures { outcome_of (scored_for result) (back_lent reverse_starts.new reverse_columns.new reverse_weights.new out_degrees.new
         (solve_lent estimate.new residual.new in_degrees.new priorities.new nodes.new queued.new visited.new))
         ≡ query_transition_probability (given_rows reversing n starts.now columns.now weights.now
         (back_lent reverse_starts.old reverse_columns.old reverse_weights.old out_degrees.old
@@ -38,7 +37,7 @@ pub fn query_transition_probability_rows<'a>(
         source target settings }
 {
     let one = [target];
-    let c = checked_backward_rows::checked_rows(
+    let counts = checked_backward_rows::checked_rows(
         n,
         starts,
         columns,
@@ -46,9 +45,9 @@ pub fn query_transition_probability_rows<'a>(
         &one,
         false,
         0,
-        Watch::Nobody,
+        None,
         settings,
-        0,
+        Ok(()),
         estimate,
         residual,
         reverse_starts,
@@ -61,5 +60,5 @@ pub fn query_transition_probability_rows<'a>(
         queued,
         visited,
     );
-    calls::answered(c.refusal, estimate, source)
+    calls::answered(counts, estimate, source)
 }

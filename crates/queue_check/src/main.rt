@@ -1,262 +1,170 @@
 // Replays a recording of the repaired Rust's work queue through `queue`, and compares every popped
-// node and every size. The recording is a list of records of 16 bytes, little-endian: what is done
-// (u16), a node (u16), the size afterwards (u32) and a number (f64); oracle/runs/src/bin/record makes
-// it.
+// node and every size. The recording is a list of records of 16 bytes, which `recording` reads;
+// oracle/runs/src/bin/record makes it.
 #![tactic(auto)]
 
 mod recording;
 
-ghost use Rattle.std.specs.Prelude.{◌≡◌, ◌+◌, ◌<◌, ◌≤◌, length};
-ghost use Rattle.queue_check.specs.QueueReady.{QueueReady};
+ghost use Rattle.queue.specs.Heap.{Heap};
 
+use crate::recording::{Action, Operation};
 use queue::WorkQueue;
+use std::fmt;
+use std::fmt::Write;
 
-// The standard streams.
+// The numbers of the standard streams, as POSIX has them.
 const STDIN_FILENO: i32 = 0;
 
 const STDOUT_FILENO: i32 = 1;
 
-const START: u64 = 0;
-
-const OFFER: u64 = 1;
-
-const OFFER_UP_TO: u64 = 2;
-
-const POP: u64 = 3;
-
-const POP_NOBODY: u64 = 4;
-
-const ADAPT: u64 = 5;
-
-// A record of the recording.
-#[derive(Clone, Copy)]
-struct Operation {
-    what: u64,
-    node: u32,
-    size: u32,
-    number: f64,
-}
-
-// The queue after an operation, and whether it did what is recorded.
-#[derive(Clone, Copy)]
-struct Done {
+// The queue that is replayed, with a place for each of 65,536 nodes.
+#[derive(Drop)]
+struct Replay {
     queue: WorkQueue,
-    agrees: bool,
+    priorities: [f64; 65536],
+    nodes: [u32; 65536],
+    marks: [u64; 1024],
+    ghost ready: { Heap queue.size priorities nodes marks },
 }
 
-// The queue after some operations, with their number and the number of those that differ.
-#[derive(Clone, Copy)]
+impl Replay {
+    // An empty queue.
+    fn new() -> Replay {
+        let priorities = [0.0; 65536];
+        let nodes = [0; 65536];
+        let mut marks = [0; 1024];
+        let queue = queue::start(0.0, &priorities, &nodes, &mut marks);
+        Replay {
+            queue,
+            priorities,
+            nodes,
+            marks,
+        }
+    }
+
+    // Starts the queue anew.
+    fn start(&mut self, threshold: f64) {
+        self.queue = queue::start(threshold, &self.priorities, &self.nodes, &mut self.marks);
+    }
+
+    // Offers a node at a priority.
+    fn offer(&mut self, node: u16, priority: f64) {
+        queue::lent::offer(
+            &mut self.queue,
+            &mut self.priorities,
+            &mut self.nodes,
+            &mut self.marks,
+            u32::from(node),
+            priority,
+        );
+    }
+
+    // Pops a node, if there is one.
+    fn pop(&mut self) -> Option<u32> {
+        if self.queue.size == 0 {
+            return None;
+        }
+        Some(queue::lent::pop(
+            &mut self.queue,
+            &mut self.priorities,
+            &mut self.nodes,
+            &mut self.marks,
+        ))
+    }
+
+    // Adapts the threshold to the size.
+    fn adapt(&mut self) {
+        queue::lent::adapt(&mut self.queue, refusals::usual(0.0, 0.0, 0.0, 0, true));
+    }
+
+    // Does what a record says, and tells whether that can be done and a popped node is the recorded
+    // one.
+    fn perform(&mut self, o: Operation) -> bool {
+        match o.action {
+            Some(Action::Start) => self.start(o.number),
+            Some(Action::Offer) => self.offer(o.node, o.number),
+            Some(Action::OfferUpTo) => {
+                for node in 0..=o.node {
+                    self.offer(node, o.number);
+                }
+            }
+            Some(Action::Pop) => return self.pop() == Some(u32::from(o.node)),
+            Some(Action::PopNobody) => {}
+            Some(Action::Adapt) => self.adapt(),
+            None => return false,
+        }
+        true
+    }
+
+    // Replays the records in some bytes.
+    fn replay(&mut self, tally: &mut Tally, bytes: &[u8]) {
+        let (records, _) = bytes.as_chunks::<16>();
+        for record in records {
+            let o = Operation::read(record);
+            let agrees = self.perform(o) & (self.queue.size == o.size);
+            tally.count(o, agrees);
+        }
+    }
+}
+
+// The number of operations, of those that start a queue, and of those that differ.
+#[derive(Drop)]
 struct Tally {
-    queue: WorkQueue,
     sequences: u64,
     operations: u64,
     differ: u64,
 }
 
-// The record at `at`.
-fn read_operation(bytes: &[u8], at: usize) -> Operation
-    requires { at + 16 ≤ length bytes.now }
-    ensures { result.node < 65536 }
-{
-    let what = recording::number(bytes, at, 2);
-    let node = (recording::number(bytes, at + 2, 2) % 0x1_0000) as u32;
-    let size = (recording::number(bytes, at + 4, 4) % 0x1_0000_0000) as u32;
-    let number = numbers::float_of(recording::number(bytes, at + 8, 8));
-    Operation {
-        what,
-        node,
-        size,
-        number,
+impl Tally {
+    // Counts one more operation.
+    fn count(&mut self, o: Operation, agrees: bool) {
+        let starts = matches!(o.action, Some(Action::Start));
+        self.sequences = self.sequences.wrapping_add(u64::from(starts));
+        self.operations = self.operations.wrapping_add(1);
+        self.differ = self.differ.wrapping_add(u64::from(!agrees));
     }
 }
 
-// Offers every node up to the last, at one priority.
-fn offer_up_to(
-    queue: WorkQueue,
-    priorities: &mut [f64],
-    nodes: &mut [u32],
-    marks: &mut [u64],
-    last: u32,
-    priority: f64,
-) -> WorkQueue
-    requires queue_ready { QueueReady queue.size priorities.old nodes.old marks.old }
-    requires last_bound { last < 65536 }
-    ensures { QueueReady result.size priorities.new nodes.new marks.new }
-{
-    let mut q = queue;
-    let mut v = 0;
-    while v <= last {
-        q = queue::held::offer(q, priorities, nodes, marks, v, priority);
-        v += 1;
-    }
-    q
-}
-
-// Pops a node, if there is one, and tells whether it is the recorded one.
-fn pop_and_compare(
-    queue: WorkQueue,
-    priorities: &mut [f64],
-    nodes: &mut [u32],
-    marks: &mut [u64],
-    node: u32,
-) -> Done
-    requires { QueueReady queue.size priorities.old nodes.old marks.old }
-    ensures { QueueReady result.queue.size priorities.new nodes.new marks.new }
-{
-    let size = queue.size;
-    if size == 0 {
-        return Done {
-            queue,
-            agrees: false,
-        };
-    }
-    let popped = queue::held::pop(queue, priorities, nodes, marks);
-    let left = popped.queue;
-    Done {
-        queue: left,
-        agrees: popped.node == node,
+impl fmt::Display for Tally {
+    fn fmt<W: Write>(&self, f: &mut fmt::Formatter<W>) -> fmt::Result {
+        let Tally {
+            sequences,
+            operations,
+            differ,
+        } = self;
+        write!(
+            f,
+            "{sequences} sequences, {operations} operations, {differ} differ"
+        )
     }
 }
 
-// Starts a queue anew, or offers one node or all up to it.
-fn start_or_offer(
-    queue: WorkQueue,
-    priorities: &mut [f64],
-    nodes: &mut [u32],
-    marks: &mut [u64],
-    o: Operation,
-) -> WorkQueue
-    requires queue_ready { QueueReady queue.size priorities.old nodes.old marks.old }
-    requires node_bound { o.node < 65536 }
-    ensures { QueueReady result.size priorities.new nodes.new marks.new }
-{
-    let what = o.what;
-    let node = o.node;
-    let number = o.number;
-    if what == START {
-        return queue::start(number, priorities, nodes, marks);
-    }
-    if what == OFFER {
-        return queue::held::offer(queue, priorities, nodes, marks, node, number);
-    }
-    offer_up_to(queue, priorities, nodes, marks, node, number)
-}
+// Standard output as a writer of text, which passes over a write that fails. `println!` would rest
+// on more functions of the C library than `write`. The type stands in `roots` too, since each
+// library crate is proved without axioms.
+#[derive(Drop)]
+struct Output;
 
-// Does what a record says, and tells whether that can be done and a popped node is the recorded
-// one.
-fn perform(
-    queue: WorkQueue,
-    priorities: &mut [f64],
-    nodes: &mut [u32],
-    marks: &mut [u64],
-    o: Operation,
-) -> Done
-    requires queue_ready { QueueReady queue.size priorities.old nodes.old marks.old }
-    requires node_bound { o.node < 65536 }
-    ensures { QueueReady result.queue.size priorities.new nodes.new marks.new }
-{
-    let what = o.what;
-    let node = o.node;
-    if what <= OFFER_UP_TO {
-        let queue = start_or_offer(queue, priorities, nodes, marks, o);
-        return Done {
-            queue,
-            agrees: true,
-        };
-    }
-    if what == POP {
-        return pop_and_compare(queue, priorities, nodes, marks, node);
-    }
-    if what == ADAPT {
-        let settings = refusals::usual(0.0, 0.0, 0.0, 0, true);
-        let queue = queue::held::adapt(queue, settings);
-        return Done {
-            queue,
-            agrees: true,
-        };
-    }
-    let agrees = what == POP_NOBODY;
-    Done { queue, agrees }
-}
-
-// The tally with one more operation, which left this queue.
-fn counted(t: Tally, o: Operation, d: Done) -> Tally
-    ensures { result.queue ≡ d.queue }
-{
-    let queue = d.queue;
-    let starts = o.what == START;
-    let differs = !d.agrees | (queue.size != o.size);
-    Tally {
-        queue,
-        sequences: std::num::wrapping_add_u64(t.sequences, starts as u64),
-        operations: std::num::wrapping_add_u64(t.operations, 1),
-        differ: std::num::wrapping_add_u64(t.differ, differs as u64),
+impl Write for Output {
+    fn write_str(&mut self, text: &str) -> fmt::Result {
+        io::write_all(STDOUT_FILENO, text.as_bytes());
+        Ok(())
     }
 }
 
-// Replays the records in some bytes.
-fn replay(
-    t: Tally,
-    priorities: &mut [f64],
-    nodes: &mut [u32],
-    marks: &mut [u64],
-    bytes: &[u8],
-) -> Tally
-    requires { QueueReady t.queue.size priorities.old nodes.old marks.old }
-    ensures { QueueReady result.queue.size priorities.new nodes.new marks.new }
-{
-    let mut tally = t;
-    let mut i = 0;
-    while i < bytes.len() / 16 {
-        let o = read_operation(bytes, i * 16);
-        let queue = tally.queue;
-        let d = perform(queue, priorities, nodes, marks, o);
-        tally = counted(tally, o, d);
-        i += 1;
-    }
-    tally
-}
-
-// Replays what the next read of standard input gives: 4,096 records, fewer at the end, and then
-// none.
-fn replay_next(t: Tally, priorities: &mut [f64], nodes: &mut [u32], marks: &mut [u64]) -> Tally
-    requires { QueueReady t.queue.size priorities.old nodes.old marks.old }
-    ensures { QueueReady result.queue.size priorities.new nodes.new marks.new }
-{
-    let mut buffer = io::large_buffer();
-    let n = io::read_full(STDIN_FILENO, &mut buffer);
-    replay(t, priorities, nodes, marks, &buffer[..n])
-}
-
-// Replays the whole recording, which has at most 4 MiB.
-fn replay_all(priorities: &mut [f64], nodes: &mut [u32], marks: &mut [u64]) -> Tally
-    requires priorities_len { (length priorities.old ≡ 65536) × (length nodes.old ≡ 65536) }
-    requires marks_len { length marks.old ≡ 1024 }
-{
-    let queue = queue::start(0.0, priorities, nodes, marks);
+// Replays the whole recording, which has at most 4 MiB: each read gives 4,096 records, the last
+// ones fewer and then none.
+fn main() {
+    let mut replay = Replay::new();
     let mut tally = Tally {
-        queue,
         sequences: 0,
         operations: 0,
         differ: 0,
     };
-    let mut reads: u32 = 0;
-    while reads < 64 {
-        tally = replay_next(tally, priorities, nodes, marks);
-        reads += 1;
+    let mut buffer = io::large_buffer();
+    for _ in 0..64u8 {
+        let n = io::read_full(STDIN_FILENO, &mut buffer);
+        replay.replay(&mut tally, &buffer[..n]);
     }
-    tally
-}
-
-fn main() {
-    let mut priorities = [0.0f64; 65536];
-    let mut nodes = [0u32; 65536];
-    let mut marks = [0u64; 1024];
-    let t = replay_all(&mut priorities, &mut nodes, &mut marks);
-    io::print_decimal(STDOUT_FILENO, t.sequences);
-    io::write_all(STDOUT_FILENO, b" sequences, ");
-    io::print_decimal(STDOUT_FILENO, t.operations);
-    io::write_all(STDOUT_FILENO, b" operations, ");
-    io::print_decimal(STDOUT_FILENO, t.differ);
-    io::write_all(STDOUT_FILENO, b" differ\n");
+    let _ = writeln!(Output, "{tally}");
 }

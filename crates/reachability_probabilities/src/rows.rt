@@ -1,5 +1,6 @@
 // How likely each node is to reach the target, as a backward solve from it lets expect, of rows.
 ghost use Rattle.std.specs.Prelude.{◌≡◌};
+ghost use Rattle.refusals.specs.Answered.{number_in};
 ghost use Rattle.refusals.specs.Calls.{outcome_of};
 ghost use Rattle.calls.specs.Lent.{solve_lent};
 ghost use Rattle.calls.specs.Outcomes.{given_rows};
@@ -7,7 +8,7 @@ ghost use Rattle.backward_push.specs.Lent.{back_lent, reach_lent, reaching};
 ghost use Rattle.backward_push.specs.Outcomes.{reachability_probabilities};
 
 use refusals::Settings;
-use watching::Watch;
+use refusals::refusal::Refusal;
 
 pub fn reachability_probabilities_rows<'a>(
     n: u32,
@@ -28,8 +29,8 @@ pub fn reachability_probabilities_rows<'a>(
     nodes: &mut [u32],
     queued: &mut [u64],
     visited: &mut [u64],
-) -> u32
-    ensures { outcome_of result (reach_lent solution.new (back_lent reverse_starts.new reverse_columns.new reverse_weights.new out_degrees.new
+) -> Result<(), Refusal>
+    ensures { outcome_of (number_in result) (reach_lent solution.new (back_lent reverse_starts.new reverse_columns.new reverse_weights.new out_degrees.new
         (solve_lent estimate.new residual.new in_degrees.new priorities.new nodes.new queued.new visited.new)))
         ≡ reachability_probabilities (given_rows reaching n starts.now columns.now weights.now
         (reach_lent solution.old (back_lent reverse_starts.old reverse_columns.old reverse_weights.old out_degrees.old
@@ -37,7 +38,7 @@ pub fn reachability_probabilities_rows<'a>(
         target settings }
 {
     let one = [target];
-    let c = checked_backward_rows::checked_rows(
+    checked_backward_rows::checked_rows(
         n,
         starts,
         columns,
@@ -45,9 +46,9 @@ pub fn reachability_probabilities_rows<'a>(
         &one,
         solution.len() != n as usize,
         0,
-        Watch::Nobody,
+        None,
         settings,
-        0,
+        Ok(()),
         estimate,
         residual,
         reverse_starts,
@@ -59,10 +60,7 @@ pub fn reachability_probabilities_rows<'a>(
         nodes,
         queued,
         visited,
-    );
-    if c.refusal != 0 {
-        return c.refusal;
-    }
+    )?;
     calls::extrapolate(estimate, residual, settings.alpha, solution);
-    0
+    Ok(())
 }

@@ -16,20 +16,11 @@ use Rattle.numbers.specs.Tables.{any}
 use Rattle.refusals.specs.declared.Settings.{Settings}
 use Rattle.refusals.specs.Refusals.{◌or◌, ◌when◌, within, wrong, falls, lengths_differ, refuse_nodes, refuse_links, refuse_listed, refuse_lengths, refuse_sizes, refuse_rows, refuse_weights, refuse_alpha, refuse_adaptive, refuse_settings, Sound, link_tests, row_tests}
 use Rattle.refusals.specs.Calls.{Outcome, outcome_of, by_refusal}
+use Rattle.refusals.specs.declared.refusal.Refusal.{Refusal}
+use Rattle.refusals.specs.Answered.{number_of}
+use Rattle.refusals.proofs.Numbered.{above_zero}
 
 -- ---- the first number
-
--- r, the first, is not 0
-pub or_first : (a b : ℕ) {r : ℕ} → r ≡ a → (r ≡ 0 → ⊥) → r ≡ a or b
-unfolding ◌or◌
-or_first zero b e h = absurd (h e)
-or_first (suc a) b e h = e
-
--- p, the first, is 0, and r is the second
-pub or_second : (a b : ℕ) {p r : ℕ} → p ≡ a → p ≡ 0 → r ≡ b → r ≡ a or b
-unfolding ◌or◌
-or_second zero b e h g = g
-or_second (suc a) b e h g = absurd (omega arith)
 
 -- neither applies where the whole is 0
 pub or_zero : (a b : ℕ) → a or b ≡ 0 → (a ≡ 0) × (b ≡ 0)
@@ -157,6 +148,10 @@ module _ {A B : Type 0} (answer : ℕ → A) (lent : B) (done : Outcome A B) whe
   unfolding by_refusal
   refused zero e h = absurd (h e)
   refused (suc k) e h = rw e
+
+  -- a call that is refused for e
+  pub refused_for : (e : Refusal) (k : ℕ) → number_of e ≡ k → outcome_of (answer (number_of e)) lent ≡ by_refusal k answer lent done
+  refused_for e k h = refused k h (above_zero e)
 
   -- it is 0: the call leaves x, as it should
   pub accepted : (k : ℕ) {r : ℕ} {x : Outcome A B} → r ≡ k → r ≡ 0 → x ≡ done → x ≡ by_refusal k answer lent done

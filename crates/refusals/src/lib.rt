@@ -1,10 +1,15 @@
-// The tests of the public calls: which number a call is refused with.
+// The tests of the public calls: what a call is refused for, if anything. Each answers with the first refusal that applies.
 #![tactic(auto)]
+
+pub mod refusal;
 
 ghost use Rattle.std.specs.Prelude.{◌≡◌, length, get_or, leb};
 ghost use Rattle.numbers.specs.Tables.{any};
 ghost use Rattle.refusals.specs.Usual.{usual};
+ghost use Rattle.refusals.specs.Answered.{number_in};
 ghost use Rattle.refusals.specs.Refusals.{◌or◌, ◌when◌, refuse_nodes, refuse_links, refuse_listed, refuse_rows, refuse_weights, refuse_alpha, refuse_adaptive, refuse_settings, refuse_precision, amount, wrong, falls, within};
+
+use crate::refusal::{Refusal, refuse_if};
 
 // The settings of a solve. Those after the flag are the adaptive numbers: after how many pushes the
 // threshold adapts, above and below which sizes of the queue, by which factors, and the floor above
@@ -50,20 +55,6 @@ pub fn usual(
     }
 }
 
-// The first of two numbers that is not 0.
-pub fn or(a: u32, b: u32) -> u32
-    ensures { result ≡ (a or b) }
-{
-    if a != 0 { a } else { b }
-}
-
-// k where b holds, else 0.
-fn when(k: u32, b: bool) -> u32
-    ensures { result ≡ (k when b) }
-{
-    if b { k } else { 0 }
-}
-
 // Whether x is from a to b.
 fn is_within(a: f64, b: f64, x: f64) -> bool
     ensures { result ≡ within a b x }
@@ -85,16 +76,15 @@ fn is_wrong(w: f64) -> bool
     !is_within(0.0, 1048576.0, w)
 }
 
-// Whether one of the weights is wrong. These three look at every element, found or not, so that a compiler can
-// look at several at once.
+// Whether one of the weights is wrong. This and the two below look at every element, found or not, so that a compiler can look
+// at several at once.
+// One function over any test would take it as a closure, whose contract would be longer than the loop that it saves.
 fn any_wrong(weights: &[f64]) -> bool
     ensures { result ≡ any wrong weights.now }
 {
     let mut found = false;
-    let mut i: usize = 0;
-    while i < weights.len() {
-        found = found | is_wrong(weights[i]);
-        i += 1;
+    for weight in weights {
+        found = found | is_wrong(*weight);
     }
     found
 }
@@ -104,10 +94,8 @@ fn any_past(n: u32, columns: &[u32]) -> bool
     ensures { result ≡ any (λ v. leb n v) columns.now }
 {
     let mut found = false;
-    let mut i: usize = 0;
-    while i < columns.len() {
-        found = found | (n <= columns[i]);
-        i += 1;
+    for column in columns {
+        found = found | (n <= *column);
     }
     found
 }
@@ -117,10 +105,8 @@ fn any_fall(starts: &[u32]) -> bool
     ensures { result ≡ falls starts.now }
 {
     let mut found = false;
-    let mut i: usize = 0;
-    while i + 1 < starts.len() {
-        found = found | (starts[i + 1] < starts[i]);
-        i += 1;
+    for i in 1..starts.len() {
+        found = found | (starts[i] < starts[i - 1]);
     }
     found
 }
@@ -132,100 +118,97 @@ fn at(a: &[u32], i: usize) -> u32
     if i < a.len() { a[i] } else { 0 }
 }
 
-// 4: the rows of n nodes.
-fn refuse_starts(n: u32, starts: &[u32], columns: &[u32]) -> u32
-    ensures { result ≡ refuse_rows n starts.now columns.now }
+// The rows of n nodes.
+fn check_starts(n: u32, starts: &[u32], columns: &[u32]) -> Result<(), Refusal>
+    ensures { number_in result ≡ refuse_rows n starts.now columns.now }
 {
-    when(
-        4,
+    refuse_if(
         (at(starts, 0) != 0)
             | any_fall(starts)
             | (at(starts, n as usize) as usize != columns.len())
             | any_past(n, columns),
+        Refusal::UnsoundRows,
     )
 }
 
-// 6: alpha.
-pub fn refuse_alpha(a: f64) -> u32
-    ensures { result ≡ refuse_alpha a }
+// The weights of a list of links or of rows.
+fn check_weights(weights: &[f64]) -> Result<(), Refusal>
+    ensures { number_in result ≡ refuse_weights weights.now }
 {
-    when(6, !is_within(0.0, 1.0, a))
+    refuse_if(any_wrong(weights), Refusal::UnsoundWeight)
 }
 
-// 6: the adaptive numbers of the settings.
-fn refuse_adaptive(s: Settings) -> u32
-    ensures { result ≡ refuse_adaptive s }
+// Alpha.
+pub fn check_alpha(a: f64) -> Result<(), Refusal>
+    ensures { number_in result ≡ refuse_alpha a }
 {
-    when(
-        6,
+    refuse_if(!is_within(0.0, 1.0, a), Refusal::UnsoundSettings)
+}
+
+// The adaptive numbers of the settings.
+fn check_adaptive(s: Settings) -> Result<(), Refusal>
+    ensures { number_in result ≡ refuse_adaptive s }
+{
+    refuse_if(
         (s.adaptive_step == 0)
             | (s.upper_size < s.lower_size)
             | !is_amount(s.raising_factor)
             | !is_amount(s.lowering_factor)
             | !is_amount(s.threshold_floor),
+        Refusal::UnsoundSettings,
     )
 }
 
-// 6: the settings of a solve.
-pub fn refuse_settings(s: Settings) -> u32
-    ensures { result ≡ refuse_settings s }
+// The settings of a solve.
+pub fn check_settings(s: Settings) -> Result<(), Refusal>
+    ensures { number_in result ≡ refuse_settings s }
 {
-    let own = when(
-        6,
+    check_alpha(s.alpha)?;
+    refuse_if(
         !is_amount(s.epsilon) | !is_amount(s.queue_threshold) | (1_000_000_000 < s.max_pushes),
-    );
-    or(refuse_alpha(s.alpha), or(own, refuse_adaptive(s)))
+        Refusal::UnsoundSettings,
+    )?;
+    check_adaptive(s)
 }
 
-// 7: a precision.
-pub fn refuse_precision(p: f64) -> u32
-    ensures { result ≡ refuse_precision p }
+// A precision.
+pub fn check_precision(p: f64) -> Result<(), Refusal>
+    ensures { number_in result ≡ refuse_precision p }
 {
-    when(7, !is_amount(p))
+    refuse_if(!is_amount(p), Refusal::UnsoundPrecision)
 }
 
-// 1, 2 or 3: n nodes, m links, s sources or targets, and whether a lent buffer has another length than stated.
-pub fn refuse_sizes(n: usize, m: usize, s: usize, differ: bool) -> u32
-    ensures { result ≡ (refuse_nodes n or refuse_links m or refuse_listed s or 3 when differ) }
+// n nodes, m links, s sources or targets, and whether a lent buffer has another length than stated.
+pub fn check_sizes(n: usize, m: usize, s: usize, differ: bool) -> Result<(), Refusal>
+    ensures { number_in result ≡ (refuse_nodes n or refuse_links m or refuse_listed s or 3 when differ) }
 {
-    if 65536 < n {
-        return 1;
-    }
-    if 1_048_576 < m {
-        return 2;
-    }
-    if 65536 < s {
-        return 2;
-    }
-    if differ { 3 } else { 0 }
+    refuse_if(65536 < n, Refusal::TooManyNodes)?;
+    refuse_if(1_048_576 < m, Refusal::TooManyLinks)?;
+    refuse_if(65536 < s, Refusal::TooManyLinks)?;
+    refuse_if(differ, Refusal::WrongLength)
 }
 
-// The first number of a call with a list of links.
-pub fn refuse_links(n: usize, m: usize, s: usize, differ: bool, ws: &[f64]) -> u32
-    ensures { result ≡ ((refuse_nodes n or refuse_links m or refuse_listed s or 3 when differ) or refuse_weights ws.now) }
+// A call with a list of links.
+pub fn check_links(n: usize, m: usize, s: usize, differ: bool, ws: &[f64]) -> Result<(), Refusal>
+    ensures { number_in result ≡ ((refuse_nodes n or refuse_links m or refuse_listed s or 3 when differ) or refuse_weights ws.now) }
 {
-    let r = refuse_sizes(n, m, s, differ);
-    if r != 0 {
-        return r;
-    }
-    when(5, any_wrong(ws))
+    check_sizes(n, m, s, differ)?;
+    check_weights(ws)
 }
 
-// The first number of a call with rows.
-pub fn refuse_rows(
+// A call with rows.
+pub fn check_rows(
     n: u32,
     s: usize,
     differ: bool,
     starts: &[u32],
     columns: &[u32],
     ws: &[f64],
-) -> u32
-    ensures { result ≡ ((refuse_nodes n or refuse_links (length columns.now) or refuse_listed s or 3 when differ)
+) -> Result<(), Refusal>
+    ensures { number_in result ≡ ((refuse_nodes n or refuse_links (length columns.now) or refuse_listed s or 3 when differ)
         or refuse_rows n starts.now columns.now or refuse_weights ws.now) }
 {
-    let r = refuse_sizes(n as usize, columns.len(), s, differ);
-    if r != 0 {
-        return r;
-    }
-    or(refuse_starts(n, starts, columns), when(5, any_wrong(ws)))
+    check_sizes(n as usize, columns.len(), s, differ)?;
+    check_starts(n, starts, columns)?;
+    check_weights(ws)
 }

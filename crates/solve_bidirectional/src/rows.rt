@@ -1,14 +1,14 @@
 // The score of a forward solve from the source and a backward solve from the target, of rows.
 ghost use Rattle.std.specs.Prelude.{◌≡◌};
 ghost use Rattle.refusals.specs.Calls.{outcome_of};
-ghost use Rattle.calls.specs.Lent.{solve_lent};
+ghost use Rattle.calls.specs.Lent.{solve_lent, scored_for};
 ghost use Rattle.calls.specs.Outcomes.{given_rows};
 ghost use Rattle.backward_push.specs.Lent.{back_lent};
 ghost use Rattle.bidirectional_push.specs.Lent.{both_lent, joining};
 ghost use Rattle.bidirectional_push.specs.Outcomes.{solve_bidirectional};
 
-use calls::Scored;
 use refusals::Settings;
+use refusals::refusal::Refusal;
 
 pub fn solve_bidirectional_rows<'a>(
     n: u32,
@@ -32,8 +32,8 @@ pub fn solve_bidirectional_rows<'a>(
     nodes: &mut [u32],
     queued: &mut [u64],
     visited: &mut [u64],
-) -> Scored
-    ensures { outcome_of result (both_lent forward_estimate.new forward_residual.new (back_lent reverse_starts.new reverse_columns.new reverse_weights.new out_degrees.new
+) -> Result<f64, Refusal>
+    ensures { outcome_of (scored_for result) (both_lent forward_estimate.new forward_residual.new (back_lent reverse_starts.new reverse_columns.new reverse_weights.new out_degrees.new
         (solve_lent backward_estimate.new backward_residual.new in_degrees.new priorities.new nodes.new queued.new visited.new)))
         ≡ solve_bidirectional (given_rows joining n starts.now columns.now weights.now
         (both_lent forward_estimate.old forward_residual.old (back_lent reverse_starts.old reverse_columns.old reverse_weights.old out_degrees.old

@@ -1,12 +1,12 @@
 // A forward solve from many sources, of a list of links.
 ghost use Rattle.refusals.specs.Calls.{outcome_of};
-ghost use Rattle.calls.specs.Lent.{solve_lent, links_lent, solving};
+ghost use Rattle.calls.specs.Lent.{solve_lent, links_lent, solving, solved_for};
 ghost use Rattle.calls.specs.Outcomes.{given_links};
 ghost use Rattle.forward_push.specs.Outcomes.{solve_multi_source};
 
-use calls::Solved;
+use calls::Summary;
 use refusals::Settings;
-use watching::Watch;
+use refusals::refusal::Refusal;
 
 pub fn solve_multi_source_links(
     n: u32,
@@ -25,22 +25,22 @@ pub fn solve_multi_source_links(
     nodes: &mut [u32],
     queued: &mut [u64],
     visited: &mut [u64],
-) -> Solved
+) -> Result<Summary, Refusal>
     ensures { solve_multi_source (given_links solving n from.now to.now weight.now (links_lent starts.old columns.old weights.old
         (solve_lent estimate.old residual.old degrees.old priorities.old nodes.old queued.old visited.old)))
-        sources.now settings (outcome_of result (links_lent starts.new columns.new weights.new
+        sources.now settings (outcome_of (solved_for result) (links_lent starts.new columns.new weights.new
         (solve_lent estimate.new residual.new degrees.new priorities.new nodes.new queued.new visited.new))) }
 {
-    let c = checked_forward_links::checked_links(
+    let counts = checked_forward_links::checked_links(
         n,
         from,
         to,
         weight,
         sources,
         sources.len(),
-        Watch::Nobody,
+        None,
         settings,
-        0,
+        Ok(()),
         estimate,
         residual,
         starts,
@@ -52,5 +52,5 @@ pub fn solve_multi_source_links(
         queued,
         visited,
     );
-    calls::measured(c, residual)
+    calls::measured(counts, residual)
 }

@@ -1,13 +1,13 @@
 // A backward solve from many targets, of rows.
 ghost use Rattle.refusals.specs.Calls.{outcome_of};
-ghost use Rattle.calls.specs.Lent.{solve_lent};
+ghost use Rattle.calls.specs.Lent.{solve_lent, solved_for};
 ghost use Rattle.calls.specs.Outcomes.{given_rows};
 ghost use Rattle.backward_push.specs.Lent.{back_lent, reversing};
 ghost use Rattle.backward_push.specs.Outcomes.{solve_multi_target};
 
-use calls::Solved;
+use calls::Summary;
 use refusals::Settings;
-use watching::Watch;
+use refusals::refusal::Refusal;
 
 pub fn solve_multi_target_rows<'a>(
     n: u32,
@@ -27,14 +27,14 @@ pub fn solve_multi_target_rows<'a>(
     nodes: &mut [u32],
     queued: &mut [u64],
     visited: &mut [u64],
-) -> Solved
+) -> Result<Summary, Refusal>
     ensures { solve_multi_target (given_rows reversing n starts.now columns.now weights.now
         (back_lent reverse_starts.old reverse_columns.old reverse_weights.old out_degrees.old
         (solve_lent estimate.old residual.old in_degrees.old priorities.old nodes.old queued.old visited.old)))
-        targets.now settings (outcome_of result (back_lent reverse_starts.new reverse_columns.new reverse_weights.new out_degrees.new
+        targets.now settings (outcome_of (solved_for result) (back_lent reverse_starts.new reverse_columns.new reverse_weights.new out_degrees.new
         (solve_lent estimate.new residual.new in_degrees.new priorities.new nodes.new queued.new visited.new))) }
 {
-    let c = checked_backward_rows::checked_rows(
+    let counts = checked_backward_rows::checked_rows(
         n,
         starts,
         columns,
@@ -42,9 +42,9 @@ pub fn solve_multi_target_rows<'a>(
         targets,
         false,
         targets.len(),
-        Watch::Nobody,
+        None,
         settings,
-        0,
+        Ok(()),
         estimate,
         residual,
         reverse_starts,
@@ -57,5 +57,5 @@ pub fn solve_multi_target_rows<'a>(
         queued,
         visited,
     );
-    calls::measured(c, residual)
+    calls::measured(counts, residual)
 }

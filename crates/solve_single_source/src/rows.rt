@@ -1,12 +1,12 @@
 // A forward solve from one source, of rows.
 ghost use Rattle.refusals.specs.Calls.{outcome_of};
-ghost use Rattle.calls.specs.Lent.{solve_lent, solving};
+ghost use Rattle.calls.specs.Lent.{solve_lent, solving, solved_for};
 ghost use Rattle.calls.specs.Outcomes.{given_rows};
 ghost use Rattle.forward_push.specs.Outcomes.{solve_single_source};
 
-use calls::Solved;
+use calls::Summary;
 use refusals::Settings;
-use watching::Watch;
+use refusals::refusal::Refusal;
 
 pub fn solve_single_source_rows<'a>(
     n: u32,
@@ -22,22 +22,22 @@ pub fn solve_single_source_rows<'a>(
     nodes: &mut [u32],
     queued: &mut [u64],
     visited: &mut [u64],
-) -> Solved
+) -> Result<Summary, Refusal>
     ensures { solve_single_source (given_rows solving n starts.now columns.now weights.now
         (solve_lent estimate.old residual.old degrees.old priorities.old nodes.old queued.old visited.old))
-        source settings (outcome_of result (solve_lent estimate.new residual.new degrees.new priorities.new nodes.new queued.new visited.new)) }
+        source settings (outcome_of (solved_for result) (solve_lent estimate.new residual.new degrees.new priorities.new nodes.new queued.new visited.new)) }
 {
     let one = [source];
-    let c = checked_forward_rows::checked_rows(
+    let counts = checked_forward_rows::checked_rows(
         n,
         starts,
         columns,
         weights,
         &one,
         0,
-        Watch::Nobody,
+        None,
         settings,
-        0,
+        Ok(()),
         estimate,
         residual,
         degrees,
@@ -46,5 +46,5 @@ pub fn solve_single_source_rows<'a>(
         queued,
         visited,
     );
-    calls::measured(c, residual)
+    calls::measured(counts, residual)
 }

@@ -1,13 +1,13 @@
 // A backward solve from one target, of a list of links.
 ghost use Rattle.refusals.specs.Calls.{outcome_of};
-ghost use Rattle.calls.specs.Lent.{solve_lent, links_lent};
+ghost use Rattle.calls.specs.Lent.{solve_lent, links_lent, solved_for};
 ghost use Rattle.calls.specs.Outcomes.{given_links};
 ghost use Rattle.backward_push.specs.Lent.{back_lent, reversing};
 ghost use Rattle.backward_push.specs.Outcomes.{solve_single_target};
 
-use calls::Solved;
+use calls::Summary;
 use refusals::Settings;
-use watching::Watch;
+use refusals::refusal::Refusal;
 
 pub fn solve_single_target_links(
     n: u32,
@@ -30,15 +30,15 @@ pub fn solve_single_target_links(
     nodes: &mut [u32],
     queued: &mut [u64],
     visited: &mut [u64],
-) -> Solved
+) -> Result<Summary, Refusal>
     ensures { solve_single_target (given_links reversing n from.now to.now weight.now
         (links_lent starts.old columns.old weights.old (back_lent reverse_starts.old reverse_columns.old reverse_weights.old out_degrees.old
         (solve_lent estimate.old residual.old in_degrees.old priorities.old nodes.old queued.old visited.old))))
-        target settings (outcome_of result (links_lent starts.new columns.new weights.new (back_lent reverse_starts.new reverse_columns.new reverse_weights.new out_degrees.new
+        target settings (outcome_of (solved_for result) (links_lent starts.new columns.new weights.new (back_lent reverse_starts.new reverse_columns.new reverse_weights.new out_degrees.new
         (solve_lent estimate.new residual.new in_degrees.new priorities.new nodes.new queued.new visited.new)))) }
 {
     let one = [target];
-    let c = checked_backward_links::checked_links(
+    let counts = checked_backward_links::checked_links(
         n,
         from,
         to,
@@ -46,9 +46,9 @@ pub fn solve_single_target_links(
         &one,
         false,
         0,
-        Watch::Nobody,
+        None,
         settings,
-        0,
+        Ok(()),
         estimate,
         residual,
         starts,
@@ -64,5 +64,5 @@ pub fn solve_single_target_links(
         queued,
         visited,
     );
-    calls::measured(c, residual)
+    calls::measured(counts, residual)
 }

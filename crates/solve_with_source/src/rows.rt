@@ -1,13 +1,14 @@
 // A backward solve from one target that stops early, where the estimate of the source is precise enough, of rows.
 ghost use Rattle.refusals.specs.Calls.{outcome_of};
-ghost use Rattle.calls.specs.Lent.{solve_lent};
+ghost use Rattle.calls.specs.Lent.{solve_lent, solved_for};
 ghost use Rattle.calls.specs.Outcomes.{given_rows};
 ghost use Rattle.backward_push.specs.Lent.{back_lent, reversing};
 ghost use Rattle.backward_push.specs.Outcomes.{solve_with_source};
 
-use calls::Solved;
+use calls::Summary;
 use refusals::Settings;
-use watching::Watch;
+use refusals::refusal::Refusal;
+use watching::Watched;
 
 pub fn solve_with_source_rows<'a>(
     n: u32,
@@ -29,16 +30,16 @@ pub fn solve_with_source_rows<'a>(
     nodes: &mut [u32],
     queued: &mut [u64],
     visited: &mut [u64],
-) -> Solved
+) -> Result<Summary, Refusal>
     ensures { solve_with_source (given_rows reversing n starts.now columns.now weights.now
         (back_lent reverse_starts.old reverse_columns.old reverse_weights.old out_degrees.old
         (solve_lent estimate.old residual.old in_degrees.old priorities.old nodes.old queued.old visited.old)))
-        source target source_precision settings (outcome_of result (back_lent reverse_starts.new reverse_columns.new reverse_weights.new out_degrees.new
+        source target source_precision settings (outcome_of (solved_for result) (back_lent reverse_starts.new reverse_columns.new reverse_weights.new out_degrees.new
         (solve_lent estimate.new residual.new in_degrees.new priorities.new nodes.new queued.new visited.new))) }
 {
     let one = [target];
-    let further = refusals::refuse_precision(source_precision);
-    let c = checked_backward_rows::checked_rows(
+    let further = refusals::check_precision(source_precision);
+    let counts = checked_backward_rows::checked_rows(
         n,
         starts,
         columns,
@@ -46,10 +47,10 @@ pub fn solve_with_source_rows<'a>(
         &one,
         false,
         0,
-        Watch::Node {
+        Some(Watched {
             node: source,
             precision: source_precision,
-        },
+        }),
         settings,
         further,
         estimate,
@@ -64,5 +65,5 @@ pub fn solve_with_source_rows<'a>(
         queued,
         visited,
     );
-    calls::measured(c, residual)
+    calls::measured(counts, residual)
 }

@@ -1,12 +1,13 @@
 // A forward solve from one source that stops early, where the estimate of the target is precise enough, of rows.
 ghost use Rattle.refusals.specs.Calls.{outcome_of};
-ghost use Rattle.calls.specs.Lent.{solve_lent, solving};
+ghost use Rattle.calls.specs.Lent.{solve_lent, solving, solved_for};
 ghost use Rattle.calls.specs.Outcomes.{given_rows};
 ghost use Rattle.forward_push.specs.Outcomes.{solve_with_target};
 
-use calls::Solved;
+use calls::Summary;
 use refusals::Settings;
-use watching::Watch;
+use refusals::refusal::Refusal;
+use watching::Watched;
 
 pub fn solve_with_target_rows<'a>(
     n: u32,
@@ -24,24 +25,24 @@ pub fn solve_with_target_rows<'a>(
     nodes: &mut [u32],
     queued: &mut [u64],
     visited: &mut [u64],
-) -> Solved
+) -> Result<Summary, Refusal>
     ensures { solve_with_target (given_rows solving n starts.now columns.now weights.now
         (solve_lent estimate.old residual.old degrees.old priorities.old nodes.old queued.old visited.old))
-        source target target_precision settings (outcome_of result (solve_lent estimate.new residual.new degrees.new priorities.new nodes.new queued.new visited.new)) }
+        source target target_precision settings (outcome_of (solved_for result) (solve_lent estimate.new residual.new degrees.new priorities.new nodes.new queued.new visited.new)) }
 {
     let one = [source];
-    let further = refusals::refuse_precision(target_precision);
-    let c = checked_forward_rows::checked_rows(
+    let further = refusals::check_precision(target_precision);
+    let counts = checked_forward_rows::checked_rows(
         n,
         starts,
         columns,
         weights,
         &one,
         0,
-        Watch::Node {
+        Some(Watched {
             node: target,
             precision: target_precision,
-        },
+        }),
         settings,
         further,
         estimate,
@@ -52,5 +53,5 @@ pub fn solve_with_target_rows<'a>(
         queued,
         visited,
     );
-    calls::measured(c, residual)
+    calls::measured(counts, residual)
 }

@@ -5,7 +5,6 @@ use mathlib.Core.Bool.{Bool, true, false, ◌&&◌}
 use mathlib.Core.List.{List}
 use mathlib.Core.Path.{◌≡◌, refl, sym, ap, ◌∙◌}
 use borrow.Author.Tests.{ltb-true, ltb-false}
-use lib.ListN.{length}
 use lib.Dec.{ltb}
 use lib.Ieee.{Float}
 use Rattle.numbers.specs.Choice.{if◌then◌otherwise◌}
@@ -16,9 +15,12 @@ use Rattle.rules.specs.Ways.{Way}
 use Rattle.rules.specs.Rules.{State, Watch, goes_on, due, turn, run, start, enough, solve}
 use Rattle.rules.proofs.Due.{next_none}
 use Rattle.rules.proofs.Ends.{measure, falls, end, end_stays, end_turn, solve_ends}
-use Rattle.pushes.specs.States.{SameBeyond, Holding, state_of}
-use Rattle.pushes.specs.Buffers.{Lists, Ready}
-use Rattle.pushes.specs.Meant.{Stands}
+use Rattle.pushes.specs.States.{SameBeyond, state_of, holding_in, SameFrontier, SameTally}
+use Rattle.pushes.specs.Buffers.{nodes_in, ReadyIn}
+use Rattle.pushes.specs.Meant.{StandsIn}
+use Rattle.pushes.specs.declared.Frontier.{Frontier}
+use Rattle.pushes.specs.declared.Graph.{Graph}
+use Rattle.pushes.specs.declared.Tally.{Tally}
 
 module _ (settings : Settings) (watch : Watch) (s : State) (size : ℕ) where
   -- the run goes on
@@ -57,9 +59,9 @@ solved way settings watch n sources s t e f =
     f (enough settings n) (rw e (solve_ends way settings watch n sources)) ∙ ap (run way settings watch (enough settings n)) e
 
 -- what holds between two turns
-pub record Running (settings : Settings) (backward : Bool) (watch : Watch) (n : ℕ) (l : Lists) (h₀ h : Holding) : Type 0 where
-  pub ready : Ready n backward l h
-  pub same_queued : length h.queued ≡ length h₀.queued
-  pub same_visited : length h.visited ≡ length h₀.visited
-  pub beyond : SameBeyond n h₀.visited h.visited
-  pub left : (way : Way) → Stands n backward l way → end way settings watch (state_of n h) ≡ end way settings watch (state_of n h₀)
+pub record Running (settings : Settings) (watch : Watch) (g : Graph) (f₀ : Frontier) (t₀ : Tally) (f : Frontier) (t : Tally) : Type 0 where
+  pub ready : ReadyIn g f t
+  pub same_frontier : SameFrontier f₀ f
+  pub same_tally : SameTally t₀ t
+  pub beyond : SameBeyond (nodes_in g) t₀.visited.now t.visited.now
+  pub left : (way : Way) → StandsIn g way → end way settings watch (state_of (nodes_in g) (holding_in f t)) ≡ end way settings watch (state_of (nodes_in g) (holding_in f₀ t₀))

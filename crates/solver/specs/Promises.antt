@@ -6,9 +6,8 @@ use Rattle.refusals.specs.declared.Settings.{Settings}
 use Rattle.queue.specs.Waiting.{nobody}
 use Rattle.rules.specs.Ways.{Way}
 use Rattle.rules.specs.Rules.{Watch, goes_on, due, run}
-use Rattle.pushes.specs.States.{state_in, Holding, pending_of, state_of, SameBeyond}
+use Rattle.pushes.specs.States.{Progress, state_in, Holding, pending_of, state_of, SameBeyond}
 use Rattle.pushes.specs.Buffers.{Lent}
-use Rattle.pushes.specs.declared.Progress.{Progress}
 
 -- r is the test of the loop: the rules' own, and somebody waits
 abbrev pub Continues : Settings → Watch → Progress → List Float → List Float → Bool → Type 0

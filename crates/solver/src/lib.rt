@@ -1,138 +1,74 @@
 // The core of the push solver, which both directions share, over lent buffers: a start, and turns while there is one more. A
-// promise says that the state that the buffers stand for is moved as the rules say; `backward` is the direction.
+// promise says that the state that the buffers stand for is moved as the rules say.
 #![tactic(auto)]
 
 ghost use Rattle.std.specs.Prelude.{◌≡◌, ◌≤◌, length};
 ghost use Rattle.refusals.specs.Refusals.{Sound};
 ghost use Rattle.rules.specs.Rules as Rules;
 ghost use Rattle.watching.specs.Watching.{watch_in};
-ghost use Rattle.pushes.specs.States.{holding_in, holding_before, holding_after};
-ghost use Rattle.pushes.specs.Buffers.{lists_in, lists, Rows, Ready, Room};
-ghost use Rattle.pushes.specs.Meant.{Stands};
+ghost use Rattle.pushes.specs.States.{progress_in, holding_in, SameFrontier, SameTally};
+ghost use Rattle.pushes.specs.Buffers.{nodes_in, RowsIn, ReadyIn, RoomIn};
+ghost use Rattle.pushes.specs.Meant.{StandsIn};
 ghost use Rattle.starting.specs.Promises.{LeavesState};
 ghost use Rattle.solver.specs.Promises.{Continues, Ran};
 
-use pushes::Progress;
+use pushes::{Frontier, Graph, Tally};
 use refusals::Settings;
-use watching::Watch;
+use watching::Watched;
 
 // Whether there is one more turn.
 fn goes_on(
     settings: Settings,
-    watch: Watch,
-    p: Progress,
-    estimate: &[f64],
-    residual: &[f64],
+    watch: Option<Watched>,
+    frontier: &Frontier<'_>,
+    tally: &Tally<'_>,
 ) -> bool
-    requires { length residual.now ≡ length estimate.now }
-    ensures { Continues settings (watch_in watch) p estimate.now residual.now result }
+    requires { length frontier.now.residual.now ≡ length tally.now.estimate.now }
+    ensures { Continues settings (watch_in watch) (progress_in frontier.now tally.now) tally.now.estimate.now frontier.now.residual.now result }
 {
-    if p.pushes < settings.max_pushes {
-        if watching::stopped(watch, estimate, residual) {
+    if tally.pushes < settings.max_pushes {
+        if watching::stopped(watch, tally.estimate, frontier.residual) {
             return false;
         }
-        let q = p.queue;
-        return 0 < q.size;
+        return 0 < frontier.queue.size;
     }
     false
 }
 
 // Turns while there is one more.
-fn run<'a>(
+fn run(
     settings: Settings,
-    backward: bool,
-    watch: Watch,
-    p: Progress,
-    starts: &[u32],
-    columns: &'a [u32],
-    reverse_columns: &'a [u32],
-    weights: &'a [f64],
-    reverse_weights: &'a [f64],
-    degrees: &[f64],
-    out_degrees: &[f64],
-    estimate: &mut [f64],
-    residual: &mut [f64],
-    priorities: &mut [f64],
-    nodes: &mut [u32],
-    queued: &mut [u64],
-    visited: &mut [u64],
-) -> Progress
-    requires { Ready (length degrees.now) backward (lists_in starts columns reverse_columns weights reverse_weights degrees out_degrees)
-        (holding_in p estimate residual priorities nodes queued visited) × Sound settings }
-    ensures { Ran (Stands (length degrees.now) backward (lists starts columns reverse_columns weights reverse_weights degrees out_degrees)) settings (watch_in watch)
-        (length degrees.now) (holding_before p estimate residual priorities nodes queued visited) (holding_after result estimate residual priorities nodes queued visited) }
+    watch: Option<Watched>,
+    graph: Graph<'_>,
+    frontier: &mut Frontier<'_>,
+    tally: &mut Tally<'_>,
+)
+    requires { ReadyIn graph frontier.old tally.old × Sound settings }
+    ensures same_frontier { SameFrontier frontier.old frontier.new }
+    ensures same_tally { SameTally tally.old tally.new }
+    ensures ran { Ran (StandsIn graph.entry) settings (watch_in watch) (nodes_in graph.entry)
+        (holding_in frontier.old tally.old) (holding_in frontier.new tally.new) }
 {
-    let mut w = p;
-    while goes_on(settings, watch, w, estimate, residual) {
-        w = turns::turn(
-            settings,
-            backward,
-            w,
-            starts,
-            columns,
-            reverse_columns,
-            weights,
-            reverse_weights,
-            degrees,
-            out_degrees,
-            estimate,
-            residual,
-            priorities,
-            nodes,
-            queued,
-            visited,
-        );
+    while goes_on(settings, watch, frontier, tally) {
+        turns::turn(settings, graph, frontier, tally);
     }
-    w
 }
 
-// A whole solve, whatever the buffers held. The starts and the degrees are those of the direction,
-// and `out_degrees` are the out-degrees. Forward reads no reverse list: lend the others twice.
-pub fn solve<'a>(
+// A whole solve, whatever the buffers held. The starts and the degrees of the graph are those of the direction.
+pub fn solve(
     settings: Settings,
-    backward: bool,
-    watch: Watch,
+    watch: Option<Watched>,
     sources: &[u32],
-    starts: &[u32],
-    columns: &'a [u32],
-    reverse_columns: &'a [u32],
-    weights: &'a [f64],
-    reverse_weights: &'a [f64],
-    degrees: &[f64],
-    out_degrees: &[f64],
-    estimate: &mut [f64],
-    residual: &mut [f64],
-    priorities: &mut [f64],
-    nodes: &mut [u32],
-    queued: &mut [u64],
-    visited: &mut [u64],
-) -> Progress
-    requires { Rows (length degrees.now) backward (lists_in starts columns reverse_columns weights reverse_weights degrees out_degrees)
-        × Room (length degrees.now) estimate.old residual.old priorities.old nodes.old queued.old visited.old × (length sources.now ≤ 65536) × Sound settings }
-    ensures { LeavesState (Stands (length degrees.now) backward (lists starts columns reverse_columns weights reverse_weights degrees out_degrees))
-        (λ way. Rules.solve way settings (watch_in watch) (length degrees.now) sources.now)
-        (length degrees.now) (holding_after result estimate residual priorities nodes queued visited) }
+    graph: Graph<'_>,
+    frontier: &mut Frontier<'_>,
+    tally: &mut Tally<'_>,
+)
+    requires { RowsIn graph × RoomIn (nodes_in graph) frontier.old tally.old × (length sources.now ≤ 65536) × Sound settings }
+    ensures same_frontier { SameFrontier frontier.old frontier.new }
+    ensures same_tally { SameTally tally.old tally.new }
+    ensures leaves { LeavesState (StandsIn graph.entry) (λ way. Rules.solve way settings (watch_in watch) (nodes_in graph.entry) sources.now)
+        (nodes_in graph.entry) (holding_in frontier.new tally.new) }
 {
-    let p = starting::start(
-        settings, watch, sources, degrees, estimate, residual, priorities, nodes, queued, visited,
-    );
-    run(
-        settings,
-        backward,
-        watch,
-        p,
-        starts,
-        columns,
-        reverse_columns,
-        weights,
-        reverse_weights,
-        degrees,
-        out_degrees,
-        estimate,
-        residual,
-        priorities,
-        nodes,
-        queued,
-        visited,
-    )
+    starting::start(settings, watch, sources, graph.degrees, frontier, tally);
+    run(settings, watch, graph, frontier, tally);
 }

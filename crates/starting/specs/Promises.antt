@@ -4,9 +4,8 @@
 use Rattle.std.specs.Prelude.{ℕ, List, ◌≡◌, length, Float}
 use Rattle.rules.specs.Ways.{Way}
 use Rattle.rules.specs.Rules.{State}
-use Rattle.pushes.specs.States.{state_in, Holding, pending_of, state_of, NoneBeyond}
+use Rattle.pushes.specs.States.{Progress, state_in, Holding, pending_of, state_of, NoneBeyond}
 use Rattle.pushes.specs.Buffers.{Lent}
-use Rattle.pushes.specs.declared.Progress.{Progress}
 
 -- the residual alone
 pub record Gained (f : State → State) (residual residual' : List Float) : Type 0 where

@@ -45,7 +45,7 @@ pub extern "C" fn adaptive_solve_links(
         (solve_lent backward_estimate.old backward_residual.old in_degrees.old priorities.old nodes.old queued.old visited.old)))))
         source target forward_settings backward_settings }
 {
-    adaptive_solve::links::adaptive_solve_links(
+    Scored::from(adaptive_solve::links::adaptive_solve_links(
         n,
         from,
         to,
@@ -70,7 +70,7 @@ pub extern "C" fn adaptive_solve_links(
         nodes,
         queued,
         visited,
-    )
+    ))
 }
 
 #[unsafe(no_mangle)]
@@ -104,7 +104,7 @@ pub extern "C" fn adaptive_solve_rows<'a>(
         (solve_lent backward_estimate.old backward_residual.old in_degrees.old priorities.old nodes.old queued.old visited.old))))
         source target forward_settings backward_settings }
 {
-    adaptive_solve::rows::adaptive_solve_rows(
+    Scored::from(adaptive_solve::rows::adaptive_solve_rows(
         n,
         starts,
         columns,
@@ -126,5 +126,5 @@ pub extern "C" fn adaptive_solve_rows<'a>(
         nodes,
         queued,
         visited,
-    )
+    ))
 }

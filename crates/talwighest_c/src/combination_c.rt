@@ -15,11 +15,11 @@ pub extern "C" fn combine_with_forward(
 ) -> Scored
     ensures { result ≡ combining backward_estimate.now backward_residual.now forward_estimate.now forward_residual.now alpha }
 {
-    combination::combine_with_forward(
+    Scored::from(combination::combine_with_forward(
         backward_estimate,
         backward_residual,
         forward_estimate,
         forward_residual,
         alpha,
-    )
+    ))
 }

@@ -16,7 +16,7 @@ pub extern "C" fn has_edge(
 ) -> Found
     ensures { result ≡ has_edge n starts.now columns.now weights.now from to }
 {
-    edges::has_edge(n, starts, columns, weights, from, to)
+    Found::from(edges::has_edge(n, starts, columns, weights, from, to))
 }
 
 #[unsafe(no_mangle)]
@@ -30,5 +30,5 @@ pub extern "C" fn edge_weight(
 ) -> Weighed
     ensures { result ≡ edge_weight n starts.now columns.now weights.now from to }
 {
-    edges::edge_weight(n, starts, columns, weights, from, to)
+    Weighed::from(edges::edge_weight(n, starts, columns, weights, from, to))
 }

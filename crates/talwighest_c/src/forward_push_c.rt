@@ -4,6 +4,8 @@ ghost use Rattle.std.specs.Prelude.{◌≡◌};
 ghost use Rattle.refusals.specs.Calls.{outcome_of};
 ghost use Rattle.forward_push.specs.Outcomes.{extrapolating};
 
+use crate::number::number_for;
+
 #[unsafe(no_mangle)]
 pub extern "C" fn extrapolated_solution(
     estimate: &[f64],
@@ -13,5 +15,7 @@ pub extern "C" fn extrapolated_solution(
 ) -> u32
     ensures { outcome_of result solution.new ≡ extrapolating estimate.now residual.now alpha solution.old }
 {
-    forward_push::extrapolation::extrapolated_solution(estimate, residual, alpha, solution)
+    number_for(forward_push::extrapolation::extrapolated_solution(
+        estimate, residual, alpha, solution,
+    ))
 }

@@ -4,6 +4,7 @@ ghost use Rattle.std.specs.Prelude.{◌≡◌};
 ghost use Rattle.refusals.specs.Calls.{outcome_of};
 ghost use Rattle.graph_entries.specs.Outcomes.{rows_lent, from_edges, graph_lent, from_matrix, transposing, row_sums};
 
+use crate::number::number_for;
 use graph_entries::Built;
 
 #[unsafe(no_mangle)]
@@ -21,7 +22,7 @@ pub extern "C" fn from_edges(
         ≡ from_edges n from.now to.now weight.now
         (rows_lent starts.old columns.old weights.old positions.old) }
 {
-    graph_entries::from_edges(n, from, to, weight, starts, columns, weights, positions)
+    Built::from(graph_entries::from_edges(n, from, to, weight, starts, columns, weights, positions))
 }
 
 #[unsafe(no_mangle)]
@@ -43,7 +44,7 @@ pub extern "C" fn from_matrix(
         (graph_lent (rows_lent reverse_starts.old reverse_columns.old reverse_weights.old positions.old)
         degrees.old reverse_degrees.old) }
 {
-    graph_entries::from_matrix(
+    number_for(graph_entries::from_matrix(
         n,
         starts,
         columns,
@@ -54,7 +55,7 @@ pub extern "C" fn from_matrix(
         degrees,
         reverse_degrees,
         positions,
-    )
+    ))
 }
 
 #[unsafe(no_mangle)]
@@ -72,7 +73,7 @@ pub extern "C" fn transpose(
         ≡ transposing n starts.now columns.now weights.now
         (rows_lent reverse_starts.old reverse_columns.old reverse_weights.old positions.old) }
 {
-    graph_entries::transpose(
+    number_for(graph_entries::transpose(
         n,
         starts,
         columns,
@@ -81,7 +82,7 @@ pub extern "C" fn transpose(
         reverse_columns,
         reverse_weights,
         positions,
-    )
+    ))
 }
 
 #[unsafe(no_mangle)]
@@ -94,5 +95,5 @@ pub extern "C" fn row_sums(
 ) -> u32
     ensures { outcome_of result degrees.new ≡ row_sums n starts.now columns.now weights.now degrees.old }
 {
-    graph_entries::row_sums(n, starts, columns, weights, degrees)
+    number_for(graph_entries::row_sums(n, starts, columns, weights, degrees))
 }

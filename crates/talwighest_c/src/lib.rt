@@ -1,5 +1,5 @@
-// The library as C calls it: each public function, under its own name, with its own promise. Nothing
-// is decided here.
+// The library as C calls it: each public function, under its own name, with its own promise. An
+// answer becomes the record, or the number, that C reads. Nothing else is decided here.
 
 #![tactic(auto)]
 
@@ -9,6 +9,7 @@ mod edges_c;
 mod forward_push_c;
 mod graph_entries_c;
 mod norm_c;
+mod number;
 mod query_single_entry_c;
 mod query_transition_probability_c;
 mod reachability_probabilities_c;

@@ -35,10 +35,10 @@ pub extern "C" fn query_single_entry_links(
         (solve_lent estimate.old residual.old degrees.old priorities.old nodes.old queued.old visited.old)))
         source target settings }
 {
-    query_single_entry::links::query_single_entry_links(
+    Scored::from(query_single_entry::links::query_single_entry_links(
         n, from, to, weight, source, target, settings, estimate, residual, starts, columns,
         weights, degrees, priorities, nodes, queued, visited,
-    )
+    ))
 }
 
 #[unsafe(no_mangle)]
@@ -63,8 +63,8 @@ pub extern "C" fn query_single_entry_rows<'a>(
         (solve_lent estimate.old residual.old degrees.old priorities.old nodes.old queued.old visited.old))
         source target settings }
 {
-    query_single_entry::rows::query_single_entry_rows(
+    Scored::from(query_single_entry::rows::query_single_entry_rows(
         n, starts, columns, weights, source, target, settings, estimate, residual, degrees,
         priorities, nodes, queued, visited,
-    )
+    ))
 }

@@ -41,28 +41,30 @@ pub extern "C" fn query_transition_probability_links(
         (solve_lent estimate.old residual.old in_degrees.old priorities.old nodes.old queued.old visited.old))))
         source target settings }
 {
-    query_transition_probability::links::query_transition_probability_links(
-        n,
-        from,
-        to,
-        weight,
-        source,
-        target,
-        settings,
-        estimate,
-        residual,
-        starts,
-        columns,
-        weights,
-        reverse_starts,
-        reverse_columns,
-        reverse_weights,
-        in_degrees,
-        out_degrees,
-        priorities,
-        nodes,
-        queued,
-        visited,
+    Scored::from(
+        query_transition_probability::links::query_transition_probability_links(
+            n,
+            from,
+            to,
+            weight,
+            source,
+            target,
+            settings,
+            estimate,
+            residual,
+            starts,
+            columns,
+            weights,
+            reverse_starts,
+            reverse_columns,
+            reverse_weights,
+            in_degrees,
+            out_degrees,
+            priorities,
+            nodes,
+            queued,
+            visited,
+        ),
     )
 }
 
@@ -94,24 +96,26 @@ pub extern "C" fn query_transition_probability_rows<'a>(
         (solve_lent estimate.old residual.old in_degrees.old priorities.old nodes.old queued.old visited.old)))
         source target settings }
 {
-    query_transition_probability::rows::query_transition_probability_rows(
-        n,
-        starts,
-        columns,
-        weights,
-        source,
-        target,
-        settings,
-        estimate,
-        residual,
-        reverse_starts,
-        reverse_columns,
-        reverse_weights,
-        in_degrees,
-        out_degrees,
-        priorities,
-        nodes,
-        queued,
-        visited,
+    Scored::from(
+        query_transition_probability::rows::query_transition_probability_rows(
+            n,
+            starts,
+            columns,
+            weights,
+            source,
+            target,
+            settings,
+            estimate,
+            residual,
+            reverse_starts,
+            reverse_columns,
+            reverse_weights,
+            in_degrees,
+            out_degrees,
+            priorities,
+            nodes,
+            queued,
+            visited,
+        ),
     )
 }

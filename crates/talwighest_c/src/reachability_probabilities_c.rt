@@ -7,6 +7,7 @@ ghost use Rattle.calls.specs.Outcomes.{given_links, given_rows};
 ghost use Rattle.backward_push.specs.Lent.{back_lent, reach_lent, reaching};
 ghost use Rattle.backward_push.specs.Outcomes.{reachability_probabilities};
 
+use crate::number::number_for;
 use refusals::Settings;
 
 #[unsafe(no_mangle)]
@@ -40,28 +41,30 @@ pub extern "C" fn reachability_probabilities_links(
         (solve_lent estimate.old residual.old in_degrees.old priorities.old nodes.old queued.old visited.old)))))
         target settings }
 {
-    reachability_probabilities::links::reachability_probabilities_links(
-        n,
-        from,
-        to,
-        weight,
-        target,
-        settings,
-        estimate,
-        residual,
-        solution,
-        starts,
-        columns,
-        weights,
-        reverse_starts,
-        reverse_columns,
-        reverse_weights,
-        in_degrees,
-        out_degrees,
-        priorities,
-        nodes,
-        queued,
-        visited,
+    number_for(
+        reachability_probabilities::links::reachability_probabilities_links(
+            n,
+            from,
+            to,
+            weight,
+            target,
+            settings,
+            estimate,
+            residual,
+            solution,
+            starts,
+            columns,
+            weights,
+            reverse_starts,
+            reverse_columns,
+            reverse_weights,
+            in_degrees,
+            out_degrees,
+            priorities,
+            nodes,
+            queued,
+            visited,
+        ),
     )
 }
 
@@ -93,24 +96,26 @@ pub extern "C" fn reachability_probabilities_rows<'a>(
         (solve_lent estimate.old residual.old in_degrees.old priorities.old nodes.old queued.old visited.old))))
         target settings }
 {
-    reachability_probabilities::rows::reachability_probabilities_rows(
-        n,
-        starts,
-        columns,
-        weights,
-        target,
-        settings,
-        estimate,
-        residual,
-        solution,
-        reverse_starts,
-        reverse_columns,
-        reverse_weights,
-        in_degrees,
-        out_degrees,
-        priorities,
-        nodes,
-        queued,
-        visited,
+    number_for(
+        reachability_probabilities::rows::reachability_probabilities_rows(
+            n,
+            starts,
+            columns,
+            weights,
+            target,
+            settings,
+            estimate,
+            residual,
+            solution,
+            reverse_starts,
+            reverse_columns,
+            reverse_weights,
+            in_degrees,
+            out_degrees,
+            priorities,
+            nodes,
+            queued,
+            visited,
+        ),
     )
 }

@@ -45,7 +45,7 @@ pub extern "C" fn solve_bidirectional_links(
         (solve_lent backward_estimate.old backward_residual.old in_degrees.old priorities.old nodes.old queued.old visited.old)))))
         source target forward_settings backward_settings }
 {
-    solve_bidirectional::links::solve_bidirectional_links(
+    Scored::from(solve_bidirectional::links::solve_bidirectional_links(
         n,
         from,
         to,
@@ -70,7 +70,7 @@ pub extern "C" fn solve_bidirectional_links(
         nodes,
         queued,
         visited,
-    )
+    ))
 }
 
 #[unsafe(no_mangle)]
@@ -104,7 +104,7 @@ pub extern "C" fn solve_bidirectional_rows<'a>(
         (solve_lent backward_estimate.old backward_residual.old in_degrees.old priorities.old nodes.old queued.old visited.old))))
         source target forward_settings backward_settings }
 {
-    solve_bidirectional::rows::solve_bidirectional_rows(
+    Scored::from(solve_bidirectional::rows::solve_bidirectional_rows(
         n,
         starts,
         columns,
@@ -126,5 +126,5 @@ pub extern "C" fn solve_bidirectional_rows<'a>(
         nodes,
         queued,
         visited,
-    )
+    ))
 }

@@ -38,7 +38,7 @@ pub extern "C" fn solve_multi_target_links(
         targets.now settings (outcome_of result (links_lent starts.new columns.new weights.new (back_lent reverse_starts.new reverse_columns.new reverse_weights.new out_degrees.new
         (solve_lent estimate.new residual.new in_degrees.new priorities.new nodes.new queued.new visited.new)))) }
 {
-    solve_multi_target::links::solve_multi_target_links(
+    Solved::from(solve_multi_target::links::solve_multi_target_links(
         n,
         from,
         to,
@@ -59,7 +59,7 @@ pub extern "C" fn solve_multi_target_links(
         nodes,
         queued,
         visited,
-    )
+    ))
 }
 
 #[unsafe(no_mangle)]
@@ -88,7 +88,7 @@ pub extern "C" fn solve_multi_target_rows<'a>(
         targets.now settings (outcome_of result (back_lent reverse_starts.new reverse_columns.new reverse_weights.new out_degrees.new
         (solve_lent estimate.new residual.new in_degrees.new priorities.new nodes.new queued.new visited.new))) }
 {
-    solve_multi_target::rows::solve_multi_target_rows(
+    Solved::from(solve_multi_target::rows::solve_multi_target_rows(
         n,
         starts,
         columns,
@@ -106,5 +106,5 @@ pub extern "C" fn solve_multi_target_rows<'a>(
         nodes,
         queued,
         visited,
-    )
+    ))
 }

@@ -32,10 +32,10 @@ pub extern "C" fn solve_single_source_links(
         source settings (outcome_of result (links_lent starts.new columns.new weights.new
         (solve_lent estimate.new residual.new degrees.new priorities.new nodes.new queued.new visited.new))) }
 {
-    solve_single_source::links::solve_single_source_links(
+    Solved::from(solve_single_source::links::solve_single_source_links(
         n, from, to, weight, source, settings, estimate, residual, starts, columns, weights,
         degrees, priorities, nodes, queued, visited,
-    )
+    ))
 }
 
 #[unsafe(no_mangle)]
@@ -58,8 +58,8 @@ pub extern "C" fn solve_single_source_rows<'a>(
         (solve_lent estimate.old residual.old degrees.old priorities.old nodes.old queued.old visited.old))
         source settings (outcome_of result (solve_lent estimate.new residual.new degrees.new priorities.new nodes.new queued.new visited.new)) }
 {
-    solve_single_source::rows::solve_single_source_rows(
+    Solved::from(solve_single_source::rows::solve_single_source_rows(
         n, starts, columns, weights, source, settings, estimate, residual, degrees, priorities,
         nodes, queued, visited,
-    )
+    ))
 }

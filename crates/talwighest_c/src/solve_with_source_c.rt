@@ -40,7 +40,7 @@ pub extern "C" fn solve_with_source_links(
         source target source_precision settings (outcome_of result (links_lent starts.new columns.new weights.new (back_lent reverse_starts.new reverse_columns.new reverse_weights.new out_degrees.new
         (solve_lent estimate.new residual.new in_degrees.new priorities.new nodes.new queued.new visited.new)))) }
 {
-    solve_with_source::links::solve_with_source_links(
+    Solved::from(solve_with_source::links::solve_with_source_links(
         n,
         from,
         to,
@@ -63,7 +63,7 @@ pub extern "C" fn solve_with_source_links(
         nodes,
         queued,
         visited,
-    )
+    ))
 }
 
 #[unsafe(no_mangle)]
@@ -94,7 +94,7 @@ pub extern "C" fn solve_with_source_rows<'a>(
         source target source_precision settings (outcome_of result (back_lent reverse_starts.new reverse_columns.new reverse_weights.new out_degrees.new
         (solve_lent estimate.new residual.new in_degrees.new priorities.new nodes.new queued.new visited.new))) }
 {
-    solve_with_source::rows::solve_with_source_rows(
+    Solved::from(solve_with_source::rows::solve_with_source_rows(
         n,
         starts,
         columns,
@@ -114,5 +114,5 @@ pub extern "C" fn solve_with_source_rows<'a>(
         nodes,
         queued,
         visited,
-    )
+    ))
 }

@@ -34,7 +34,7 @@ pub extern "C" fn solve_with_target_links(
         source target target_precision settings (outcome_of result (links_lent starts.new columns.new weights.new
         (solve_lent estimate.new residual.new degrees.new priorities.new nodes.new queued.new visited.new))) }
 {
-    solve_with_target::links::solve_with_target_links(
+    Solved::from(solve_with_target::links::solve_with_target_links(
         n,
         from,
         to,
@@ -53,7 +53,7 @@ pub extern "C" fn solve_with_target_links(
         nodes,
         queued,
         visited,
-    )
+    ))
 }
 
 #[unsafe(no_mangle)]
@@ -78,7 +78,7 @@ pub extern "C" fn solve_with_target_rows<'a>(
         (solve_lent estimate.old residual.old degrees.old priorities.old nodes.old queued.old visited.old))
         source target target_precision settings (outcome_of result (solve_lent estimate.new residual.new degrees.new priorities.new nodes.new queued.new visited.new)) }
 {
-    solve_with_target::rows::solve_with_target_rows(
+    Solved::from(solve_with_target::rows::solve_with_target_rows(
         n,
         starts,
         columns,
@@ -94,5 +94,5 @@ pub extern "C" fn solve_with_target_rows<'a>(
         nodes,
         queued,
         visited,
-    )
+    ))
 }

@@ -1,16 +1,16 @@
 // One turn of a push solver, which both directions share, over lent buffers: the next node leaves the queue, and is skipped
-// or pushed. A promise says that the state that the buffers stand for is moved as the rules say; `backward` is the direction.
+// or pushed. A promise says that the state that the buffers stand for is moved as the rules say.
 #![tactic(auto)]
 
-ghost use Rattle.std.specs.Prelude.{◌<◌, length};
+ghost use Rattle.std.specs.Prelude.{◌<◌};
 ghost use Rattle.refusals.specs.Refusals.{Sound};
 ghost use Rattle.rules.specs.Rules as Rules;
-ghost use Rattle.pushes.specs.States.{holding_in, holding_before, holding_after};
-ghost use Rattle.pushes.specs.Buffers.{lists_in, lists, Ready};
-ghost use Rattle.pushes.specs.Meant.{Stands};
+ghost use Rattle.pushes.specs.States.{holding_in, SameFrontier, SameTally};
+ghost use Rattle.pushes.specs.Buffers.{nodes_in, ReadyIn};
+ghost use Rattle.pushes.specs.Meant.{StandsIn};
 ghost use Rattle.turns.specs.Promises.{Visited, Adapted, Turned};
 
-use pushes::Progress;
+use pushes::{Frontier, Graph, Tally};
 use queue::WorkQueue;
 use refusals::Settings;
 
@@ -28,109 +28,49 @@ fn adapt(settings: Settings, pushes: u64, q: WorkQueue) -> WorkQueue
 
 // The node v, which waits no more, is skipped where its residual is below epsilon × e, and else
 // pushed, marked and counted.
-fn visit<'a>(
+fn visit(
     settings: Settings,
-    backward: bool,
     v: u32,
-    p: Progress,
-    starts: &[u32],
-    columns: &'a [u32],
-    reverse_columns: &'a [u32],
-    weights: &'a [f64],
-    reverse_weights: &'a [f64],
-    degrees: &[f64],
-    out_degrees: &[f64],
-    estimate: &mut [f64],
-    residual: &mut [f64],
-    priorities: &mut [f64],
-    nodes: &mut [u32],
-    queued: &mut [u64],
-    visited: &mut [u64],
-) -> Progress
-    requires { Ready (length degrees.now) backward (lists_in starts columns reverse_columns weights reverse_weights degrees out_degrees)
-        (holding_in p estimate residual priorities nodes queued visited) × (v < length degrees.now) × (p.pushes < settings.max_pushes) × Sound settings }
-    ensures { Visited (Stands (length degrees.now) backward (lists starts columns reverse_columns weights reverse_weights degrees out_degrees))
-        (λ way. Rules.visit way settings v) (length degrees.now)
-        (holding_before p estimate residual priorities nodes queued visited) (holding_after result estimate residual priorities nodes queued visited) }
+    graph: Graph<'_>,
+    frontier: &mut Frontier<'_>,
+    tally: &mut Tally<'_>,
+)
+    requires { ReadyIn graph frontier.old tally.old × (v < nodes_in graph) × (tally.old.pushes < settings.max_pushes) × Sound settings }
+    ensures same_frontier { SameFrontier frontier.old frontier.new }
+    ensures same_tally { SameTally tally.old tally.new }
+    ensures visited { Visited (StandsIn graph.entry) (λ way. Rules.visit way settings v) (nodes_in graph.entry)
+        (holding_in frontier.old tally.old) (holding_in frontier.new tally.new) }
 {
     let at = v as usize;
-    let q = p.queue;
-    if residual[at] < settings.epsilon * pushes::effective(degrees[at]) {
-        return p;
+    if frontier.residual[at] < settings.epsilon * pushes::effective(graph.degrees[at]) {
+        return;
     }
-    let pushed = pushes::push_node(
-        settings.alpha,
-        backward,
-        q,
-        v,
-        starts,
-        columns,
-        reverse_columns,
-        weights,
-        reverse_weights,
-        degrees,
-        out_degrees,
-        estimate,
-        residual,
-        priorities,
-        nodes,
-        queued,
-    );
-    marks::mark(visited, v);
-    let pushes = p.pushes + 1;
-    let queue = adapt(settings, pushes, pushed);
-    Progress { queue, pushes }
+    pushes::push_node(settings.alpha, v, graph, tally.estimate, frontier);
+    marks::mark(tally.visited, v);
+    let pushes = tally.pushes + 1;
+    frontier.queue = adapt(settings, pushes, frontier.queue);
+    tally.pushes = pushes;
 }
 
 // The next node leaves the queue, and is visited.
-pub fn turn<'a>(
+pub fn turn(
     settings: Settings,
-    backward: bool,
-    p: Progress,
-    starts: &[u32],
-    columns: &'a [u32],
-    reverse_columns: &'a [u32],
-    weights: &'a [f64],
-    reverse_weights: &'a [f64],
-    degrees: &[f64],
-    out_degrees: &[f64],
-    estimate: &mut [f64],
-    residual: &mut [f64],
-    priorities: &mut [f64],
-    nodes: &mut [u32],
-    queued: &mut [u64],
-    visited: &mut [u64],
-) -> Progress
-    requires { Ready (length degrees.now) backward (lists_in starts columns reverse_columns weights reverse_weights degrees out_degrees)
-        (holding_in p estimate residual priorities nodes queued visited) × (0 < p.queue.size) × (p.pushes < settings.max_pushes) × Sound settings }
-    ensures { Turned (Stands (length degrees.now) backward (lists starts columns reverse_columns weights reverse_weights degrees out_degrees)) settings
-        (length degrees.now) (holding_before p estimate residual priorities nodes queued visited) (holding_after result estimate residual priorities nodes queued visited) }
+    graph: Graph<'_>,
+    frontier: &mut Frontier<'_>,
+    tally: &mut Tally<'_>,
+)
+    requires { ReadyIn graph frontier.old tally.old × (0 < frontier.old.queue.size) × (tally.old.pushes < settings.max_pushes) × Sound settings }
+    ensures same_frontier { SameFrontier frontier.old frontier.new }
+    ensures same_tally { SameTally tally.old tally.new }
+    ensures turned { Turned (StandsIn graph.entry) settings (nodes_in graph.entry)
+        (holding_in frontier.old tally.old) (holding_in frontier.new tally.new) }
 {
-    let q = p.queue;
-    let popped = queue::held::pop(q, priorities, nodes, queued);
-    let queue = popped.queue;
-    let node = popped.node;
-    let rest = Progress {
-        queue,
-        pushes: p.pushes,
-    };
-    visit(
-        settings,
-        backward,
-        node,
-        rest,
-        starts,
-        columns,
-        reverse_columns,
-        weights,
-        reverse_weights,
-        degrees,
-        out_degrees,
-        estimate,
-        residual,
-        priorities,
-        nodes,
-        queued,
-        visited,
-    )
+    let popped = queue::held::pop(
+        frontier.queue,
+        frontier.priorities,
+        frontier.nodes,
+        frontier.queued,
+    );
+    frontier.queue = popped.queue;
+    visit(settings, popped.node, graph, frontier, tally);
 }

@@ -1,15 +1,14 @@
 -- Inner: no public promise cites it.
 -- The node that a solve watches, and the early stop by it. Assumes nothing.
-use Rattle.std.specs.Prelude.{Bool, List, ◌≡◌, Float}
+use Rattle.std.specs.Prelude.{Bool, List, ◌≡◌, Float, Option, Some, None}
 use Rattle.rules.specs.Rules as Rules
 use Rattle.rules.specs.Rules.{State, unwatched, watched, stops}
-use Rattle.watching.specs.declared.Watch.{Watch}
-use Rattle.watching.specs.declared.Watch.TheVariants.{Nobody, Node}
+use Rattle.watching.specs.declared.Watched.{Watched}
 
 -- the node that is watched, as the rules have it
-unfoldable pub watch_in : Watch → Rules.Watch
-watch_in Nobody = unwatched
-watch_in (Node v precision) = watched v precision
+unfoldable pub watch_in : Option Watched → Rules.Watch
+watch_in None = unwatched
+watch_in (Some w) = watched w.node w.precision
 
 -- r is the early stop in every state of these estimates and residuals
 abbrev pub Stops : Rules.Watch → List Float → List Float → Bool → Type 0

@@ -1,8 +1,8 @@
 -- `calls::extrapolate` meets its contract. Invariant: the first v numbers are written (`over`). Assumes nothing.
-use Prim.Native.Nat.{◌≤◌, ◌<◌, zero-le}
-use mathlib.Core.Path.{refl, sym, ◌∙◌}
+use Prim.Native.Nat.{◌≤◌, ◌<◌}
+use mathlib.Core.Path.{sym, ◌∙◌}
 use native.Mathlib.Omega.{arith}
-use lib.ListN.{length, length-set}
+use lib.ListN.{length}
 use lib.Ieee.{nan}
 use Rattle.numbers.proofs.Tables.{length-tabulate, get_or-tabulate}
 use Rattle.numbers.proofs.Over.{over_none, over_more, over_whole}
@@ -10,28 +10,19 @@ use Rattle.rules.specs.Answers.{extrapolated}
 use Rattle.calls.proofs.extrapolate.Goals as goal
 
 pub loop-v-init : goal.loop-v-init
-loop-v-init c = (zero-le, refl, over_none _ _)
-
-pub bounds-residual-v : goal.bounds-residual-v
-bounds-residual-v c = omega (arith, c.requires.0, c.loop-v-test.true)
-
-pub bounds-solution-v : goal.bounds-solution-v
-bounds-solution-v c = omega (arith, c.requires.1, c.loop-v.invariant.1, c.loop-v-test.true)
+loop-v-init c = over_none _ _
 
 pub loop-v-preserved : goal.loop-v-preserved
 unfolding extrapolated
 loop-v-preserved c = let s = c.loop-v in let a = c.args in
-    let h : s.v < length a.estimate.now = c.loop-v-test.true in (
-      omega arith,
-      simp length-set s.invariant.1,
-      rw s.invariant.2
-          (over_more s.v (extrapolated a.alpha (length a.estimate.now) a.estimate.now a.residual.now) a.solution.now nan _
-          (rw length-tabulate h) (rw c.requires.1 h) (sym (get_or-tabulate _ _ s.v nan h))),
-    )
+    let h : s.v < length a.estimate.now = omega arith in
+    rw s.invariant
+    (over_more s.v (extrapolated a.alpha (length a.estimate.now) a.estimate.now a.residual.now) a.solution.now nan _
+    (rw length-tabulate h) (rw c.requires.1 h) (sym (get_or-tabulate _ _ s.v nan h)))
 
 pub returns : goal.returns
 unfolding extrapolated
 returns c = let s = c.loop-v in let a = c.args in
     let h : length a.estimate.now ≤ s.v = omega arith in
-    s.invariant.2
+    s.invariant
     ∙ over_whole s.v (extrapolated a.alpha (length a.estimate.now) a.estimate.now a.residual.now) a.solution.now (rw c.requires.1 h) (rw length-tabulate h)

@@ -1,5 +1,4 @@
 -- `calls::extrapolate` meets its contract. Invariant: the first v numbers are written (`over`). Assumes nothing.
-use Prim.Native.Nat.{◌-◌, ◌≤◌}
 use mathlib.Core.Path.{◌≡◌}
 use lib.ListN.{length}
 use Rattle.numbers.proofs.Over.{over}
@@ -7,7 +6,4 @@ use Rattle.rules.specs.Answers.{extrapolated}
 use Rattle.calls.proofs.extrapolate.Given as goal
 
 abbrev pub invariant-loop-v : goal.invariant-loop-v
-invariant-loop-v l = (l.v ≤ length l.estimate) × (length l.solution ≡ length l.initial.solution) × (l.solution ≡ over l.v (extrapolated l.alpha (length l.estimate) l.estimate l.residual) l.initial.solution)
-
-abbrev pub decreases-loop-v : goal.decreases-loop-v
-decreases-loop-v l = length l.estimate - l.v
+invariant-loop-v l = l.solution ≡ over l.v (extrapolated l.alpha (length l.estimate) l.estimate l.residual) l.initial.solution

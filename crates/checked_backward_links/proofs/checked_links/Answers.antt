@@ -1,45 +1,59 @@
 -- `checked_backward_links::checked_links` meets its contract: refused by what the tests say, or done as `solve_links` says. Assumes nothing.
-use Prim.Native.Nat.{ℕ}
-use mathlib.Core.Bool.{false}
-use mathlib.Core.Path.{◌≡◌}
-use mathlib.Core.List.{List}
+use Rattle.std.proofs.Common.{rules, ◌≡◌, ℕ, List, false, refl}
+use Rattle.std.proofs.lemmas.Result.{err_from_is_err_and}
 use Rattle.refusals.specs.Refusals.{◌or◌, lengths_differ, refuse_settings}
+use Rattle.refusals.specs.Answered.{number_in}
 use Rattle.refusals.proofs.Laws.{settings_sound}
+use Rattle.refusals.proofs.Numbered.{stops, goes_on}
 use Rattle.calls.specs.Lent.{besides, solve_lent, links_lent}
 use Rattle.calls.specs.Outcomes.{given_links}
-use Rattle.calls.proofs.Leaving.{call_refused, call_done}
+use Rattle.calls.proofs.Leaving.{call_refused_for, call_done}
 use Rattle.calls.proofs.Asked.{links_asked}
 use Rattle.calls.proofs.Fits.{fits}
 use Rattle.calls.proofs.Lengths.{failing, failing_differ, sized_behind, links_besides}
 use Rattle.backward_push.specs.Lent.{back_lent, reversing}
-use Rattle.checked_backward_links.proofs.checked_links.Goals.{After-or-refusal}
+use Rattle.checked_backward_links.proofs.checked_links.Goals.{In_ok-further}
 use Rattle.checked_backward_links.proofs.checked_links.Goals as goal
 
--- the number
-number : (c : After-or-refusal) → let a = c.args in
+pub returns-in_err-check_links : goal.returns-in_err-check_links
+unfolding given_links
+returns-in_err-check_links c more e =
+    let p = err_from_is_err_and c.from_residual.result c.from_residual.ensures.1 in
+    rw (p.1, p.2) (call_refused_for _ (stops _ _ _ (c.in_err-check_links.ensures more e)))
+
+pub returns-in_err-check_settings : goal.returns-in_err-check_settings
+unfolding given_links
+returns-in_err-check_settings c more e =
+    let p = err_from_is_err_and c.from_residual-in_err-check_settings.result c.from_residual-in_err-check_settings.ensures.1 in
+    rw (p.1, p.2) (call_refused_for _ (goes_on _ _ (c.in_ok-check_links.ensures more e) (stops _ _ _ c.in_err-check_settings.ensures)))
+
+pub returns-in_err-further : goal.returns-in_err-further
+unfolding given_links
+returns-in_err-further c more e =
+    let p = err_from_is_err_and c.from_residual-in_err-further.result c.from_residual-in_err-further.ensures.1 in
+    rw (p.1, p.2) (call_refused_for _ (goes_on _ _ (c.in_ok-check_links.ensures more e) (goes_on _ _ c.in_ok-check_settings.ensures (search rules))))
+
+-- no test applies
+passed : (c : In_ok-further) → let a = c.args in
     (more : List (ℕ × ℕ)) → a.other ≡ lengths_differ false more
-    → c.or-refusal.result
+    → 0
     ≡ (given_links (besides more reversing) a.n a.from.now a.to.now a.weight.now (links_lent a.starts.now a.columns.now a.weights.now (back_lent a.reverse_starts.now a.reverse_columns.now a.reverse_weights.now a.out_degrees.now
     (solve_lent a.estimate.now a.residual.now a.in_degrees.now a.priorities.now a.nodes.now a.queued.now a.visited.now)))
-    ).tests a.listed or refuse_settings a.settings or a.further
+    ).tests a.listed or refuse_settings a.settings or number_in a.further
 unfolding given_links
-number c more e = rw (c.or-later.ensures, c.refuse_settings.ensures, c.refuse_links-tests.ensures more e) at c.or-refusal.ensures
-
-pub returns-then-refusal-ne0 : goal.returns-then-refusal-ne0
-unfolding given_links
-returns-then-refusal-ne0 c more e = call_refused (number (goal.at.returns-then-refusal-ne0 c).After-or-refusal more e) c.if-refusal-ne0.true
+passed c more e = goes_on _ _ (c.in_ok-check_links.ensures more e) (goes_on _ _ c.in_ok-check_settings.ensures (search rules))
 
 pub solve_links-requires : goal.solve_links-requires
-solve_links-requires c = let a = c.args in
+solve_links-requires c =
+    let a = c.args in
     let t = failing a.other in
-    let number_is = number (goal.at.solve_links-requires c).After-or-refusal t (failing_differ a.other) in
-    let zero = c.if-refusal-ne0.false in
-    let q = links_asked (besides t reversing) a.listed _ _ _ _ _ _ number_is zero in
-    let w = settings_sound _ _ _ number_is zero in
+    let number = passed (goal.at.solve_links-requires c).In_ok-further t (failing_differ a.other) in
+    let q = links_asked (besides t reversing) a.listed _ _ _ _ _ _ number refl in
+    let w = settings_sound _ _ _ number refl in
     let z = sized_behind t _ q.1 in
     let l = z.long in
     let f = fits _ _ c.requires (record { nodes = z.nodes; links = z.links; listed = z.listed; long = l.1.1.1.1 }) in
     (q.0 _ f.room.paired, l.0, l.1.0, l.1.1.0, l.1.1.1.0, f, w.0)
 
 pub returns : goal.returns
-returns c more e = call_done (number (goal.at.returns c).After-or-refusal more e) c.if-refusal-ne0.false (links_besides reversing more _ _ _ _ _ _ _ _ _ c.solve_links.ensures)
+returns c more e = call_done (passed (goal.at.returns c).In_ok-further more e) refl (links_besides reversing more _ _ _ _ _ _ _ _ _ c.solve_links.ensures)

@@ -21,6 +21,6 @@ returns c = let a = c.args in
     let p = c.requires.0 in
     let b = c.build_rows in links_settle reversing push_backward a.from.now a.to.now a.weight.now _ a.settings (watch_in a.watch) a.targets.now _ b.ensures (b.auto.columns ∙ p.columns_long)
     c.solve_rows-counts.ensures
-    (rw (b.auto.starts, p.starts_long) at c.clear.ensures)
-    (rw (b.auto.columns, p.columns_long) at c.clear-2.ensures)
-    (rw (b.auto.weights, p.weights_long) at c.clear_floats.ensures)
+    (rw (b.auto.starts, p.starts_long) at (c.fill.ensures.after (λ _ e. e)))
+    (rw (b.auto.columns, p.columns_long) at (c.fill-2.ensures.after (λ _ e. e)))
+    (rw (b.auto.weights, p.weights_long) at (c.fill-3.ensures.after (λ _ e. e)))

@@ -19,6 +19,6 @@ returns c = let a = c.args in
     let b = c.build_rows in links_joined a.n a.source a.target a.adaptive a.from.now a.to.now a.weight.now _ a.forward_settings a.backward_settings _ b.ensures
     (b.auto.columns ∙ p.columns_long)
     c.solve_rows-score.ensures
-    (rw (b.auto.starts, p.starts_long) at c.clear.ensures)
-    (rw (b.auto.columns, p.columns_long) at c.clear-2.ensures)
-    (rw (b.auto.weights, p.weights_long) at c.clear_floats.ensures)
+    (rw (b.auto.starts, p.starts_long) at (c.fill.ensures.after (λ _ e. e)))
+    (rw (b.auto.columns, p.columns_long) at (c.fill-2.ensures.after (λ _ e. e)))
+    (rw (b.auto.weights, p.weights_long) at (c.fill-3.ensures.after (λ _ e. e)))

@@ -1,11 +1,9 @@
 -- `checked_bidirectional_rows::checked_rows` meets its contract: refused by what the tests say, or done as `solve_rows` says. Assumes nothing.
-use Prim.Native.Nat.{ℕ}
-use mathlib.Core.List.{List, [], ◌∷◌}
-use mathlib.Core.Path.{◌≡◌}
-use native.Mathlib.Omega.{arith}
-use lib.ListN.{length}
+use Rattle.std.proofs.Common.{◌≡◌, ℕ, List, [], ◌∷◌, arith, length, refl}
+use Rattle.std.proofs.lemmas.Result.{err_from_is_err_and}
 use Rattle.refusals.specs.Refusals.{◌or◌, refuse_settings}
 use Rattle.refusals.proofs.Laws.{settings_sound}
+use Rattle.refusals.proofs.Numbered.{stops, goes_on}
 use Rattle.calls.specs.Lent.{solve_lent}
 use Rattle.calls.specs.Outcomes.{given_rows}
 use Rattle.calls.proofs.Lengths.{two_besides}
@@ -13,32 +11,44 @@ use Rattle.calls.proofs.Asked.{rows_asked}
 use Rattle.calls.proofs.Fits.{fits}
 use Rattle.backward_push.specs.Lent.{back_lent}
 use Rattle.bidirectional_push.specs.Lent.{both_lent, joining}
-use Rattle.bidirectional_push.proofs.Joining.{answer_refused, answer_done}
-use Rattle.checked_bidirectional_rows.proofs.checked_rows.Goals.{After-or-refusal}
+use Rattle.bidirectional_push.proofs.Joining.{answer_refused_for, answer_done}
+use Rattle.checked_bidirectional_rows.proofs.checked_rows.Goals.{In_ok-check_settings-2}
 use Rattle.checked_bidirectional_rows.proofs.checked_rows.Goals as goal
 
--- the number
-number : (c : After-or-refusal) → let a = c.args in
-    c.or-refusal.result
-    ≡ (given_rows joining a.n a.starts.now a.columns.now a.weights.now (both_lent a.forward_estimate.now a.forward_residual.now (back_lent a.reverse_starts.now a.reverse_columns.now a.reverse_weights.now a.out_degrees.now
+pub returns-in_err-check_rows : goal.returns-in_err-check_rows
+unfolding given_rows
+returns-in_err-check_rows c =
+    let p = err_from_is_err_and c.from_residual.result c.from_residual.ensures.1 in
+    rw (p.1, p.2) (answer_refused_for _ _ _ _ _ _ _ (stops _ _ _ (c.in_err-check_rows.ensures _ (two_besides _ _ _))))
+
+pub returns-in_err-check_settings : goal.returns-in_err-check_settings
+unfolding given_rows
+returns-in_err-check_settings c =
+    let p = err_from_is_err_and c.from_residual-in_err-check_settings.result c.from_residual-in_err-check_settings.ensures.1 in
+    rw (p.1, p.2) (answer_refused_for _ _ _ _ _ _ _ (goes_on _ _ (c.in_ok-check_rows.ensures _ (two_besides _ _ _)) (stops _ _ _ c.in_err-check_settings.ensures)))
+
+pub returns-in_err-check_settings-2 : goal.returns-in_err-check_settings-2
+unfolding given_rows
+returns-in_err-check_settings-2 c =
+    let p = err_from_is_err_and c.from_residual-in_err-check_settings-2.result c.from_residual-in_err-check_settings-2.ensures.1 in
+    rw (p.1, p.2)
+    (answer_refused_for _ _ _ _ _ _ _ (goes_on _ _ (c.in_ok-check_rows.ensures _ (two_besides _ _ _)) (goes_on _ _ c.in_ok-check_settings.ensures c.in_err-check_settings-2.ensures)))
+
+-- no test applies
+passed : (c : In_ok-check_settings-2) → let a = c.args in
+    0
+    ≡ (given_rows joining a.n a.starts.now a.columns.now a.weights.now
+    (both_lent a.forward_estimate.now a.forward_residual.now (back_lent a.reverse_starts.now a.reverse_columns.now a.reverse_weights.now a.out_degrees.now
     (solve_lent a.backward_estimate.now a.backward_residual.now a.in_degrees.now a.priorities.now a.nodes.now a.queued.now a.visited.now)))
     ).tests 0 or refuse_settings a.forward_settings or refuse_settings a.backward_settings
 unfolding given_rows
-number c =
-    let a = c.args in
-    let more : List (ℕ × ℕ) = (length a.forward_estimate.now, a.n) ∷ (length a.forward_residual.now, a.n) ∷ [] in
-    rw (c.or-later.ensures, c.refuse_settings-2.ensures, c.refuse_settings.ensures, c.refuse_rows-tests.ensures more (two_besides (length a.forward_estimate.now) (length a.forward_residual.now) a.n))
-    at c.or-refusal.ensures
+passed c = goes_on _ _ (c.in_ok-check_rows.ensures _ (two_besides _ _ _)) (goes_on _ _ c.in_ok-check_settings.ensures c.in_ok-check_settings-2.ensures)
 
-pub returns-then-refusal-ne0 : goal.returns-then-refusal-ne0
-unfolding given_rows
-returns-then-refusal-ne0 c = answer_refused _ _ _ _ _ _ (number (goal.at.returns-then-refusal-ne0 c).After-or-refusal) c.if-refusal-ne0.true
-
-pub solve_rows-score-requires : goal.solve_rows-score-requires
-solve_rows-score-requires c = let number_is = number (goal.at.solve_rows-score-requires c).After-or-refusal in
-    let zero = c.if-refusal-ne0.false in
-    let q = rows_asked joining 0 _ _ _ _ _ _ number_is zero in
-    let w = settings_sound _ _ _ number_is zero in
+pub solve_rows-requires : goal.solve_rows-requires
+solve_rows-requires c =
+    let number = passed (goal.at.solve_rows-requires c).In_ok-check_settings-2 in
+    let q = rows_asked joining 0 _ _ _ _ _ _ number refl in
+    let w = settings_sound _ _ _ number refl in
     let z = q.1 in
     let l = z.long in
     let f = fits [] _ (λ _. omega arith) (record { nodes = z.nodes; links = z.links; listed = z.listed; long = l.1.1.1.1.1.1 }) in (
@@ -59,4 +69,4 @@ solve_rows-score-requires c = let number_is = number (goal.at.solve_rows-score-r
     )
 
 pub returns : goal.returns
-returns c = answer_done _ _ _ _ _ _ (number (goal.at.returns c).After-or-refusal) c.if-refusal-ne0.false c.solve_rows-score.ensures
+returns c = answer_done _ _ _ _ _ _ (passed (goal.at.returns c).In_ok-check_settings-2) c.solve_rows.ensures

@@ -1,34 +1,51 @@
 -- `checked_forward_rows::checked_rows` meets its contract: refused by what the tests say, or done as `solve_rows` says. Assumes nothing.
-use mathlib.Core.Path.{◌≡◌}
+use Rattle.std.proofs.Common.{rules, ◌≡◌, refl}
+use Rattle.std.proofs.lemmas.Result.{err_from_is_err_and}
 use Rattle.refusals.specs.Refusals.{◌or◌, refuse_settings}
+use Rattle.refusals.specs.Answered.{number_in}
 use Rattle.refusals.proofs.Laws.{settings_sound}
+use Rattle.refusals.proofs.Numbered.{stops, goes_on}
 use Rattle.calls.specs.Lent.{solve_lent, solving}
 use Rattle.calls.specs.Outcomes.{given_rows}
-use Rattle.calls.proofs.Leaving.{call_refused, call_done}
+use Rattle.calls.proofs.Leaving.{call_refused_for, call_done}
 use Rattle.calls.proofs.Asked.{rows_asked}
 use Rattle.calls.proofs.Fits.{fits}
-use Rattle.checked_forward_rows.proofs.checked_rows.Goals.{After-or-refusal}
+use Rattle.checked_forward_rows.proofs.checked_rows.Goals.{In_ok-further}
 use Rattle.checked_forward_rows.proofs.checked_rows.Goals as goal
 
--- the number
-number : (c : After-or-refusal) → let a = c.args in
-    c.or-refusal.result
+pub returns-in_err-check_rows : goal.returns-in_err-check_rows
+unfolding given_rows
+returns-in_err-check_rows c =
+    let p = err_from_is_err_and c.from_residual.result c.from_residual.ensures.1 in
+    rw (p.1, p.2) (call_refused_for _ (stops _ _ _ c.in_err-check_rows.ensures))
+
+pub returns-in_err-check_settings : goal.returns-in_err-check_settings
+unfolding given_rows
+returns-in_err-check_settings c =
+    let p = err_from_is_err_and c.from_residual-in_err-check_settings.result c.from_residual-in_err-check_settings.ensures.1 in
+    rw (p.1, p.2) (call_refused_for _ (goes_on _ _ c.in_ok-check_rows.ensures (stops _ _ _ c.in_err-check_settings.ensures)))
+
+pub returns-in_err-further : goal.returns-in_err-further
+unfolding given_rows
+returns-in_err-further c =
+    let p = err_from_is_err_and c.from_residual-in_err-further.result c.from_residual-in_err-further.ensures.1 in
+    rw (p.1, p.2) (call_refused_for _ (goes_on _ _ c.in_ok-check_rows.ensures (goes_on _ _ c.in_ok-check_settings.ensures (search rules))))
+
+-- no test applies
+passed : (c : In_ok-further) → let a = c.args in
+    0
     ≡ (given_rows solving a.n a.starts.now a.columns.now a.weights.now
     (solve_lent a.estimate.now a.residual.now a.degrees.now a.priorities.now a.nodes.now a.queued.now a.visited.now)
-    ).tests a.listed or refuse_settings a.settings or a.further
+    ).tests a.listed or refuse_settings a.settings or number_in a.further
 unfolding given_rows
-number c = rw (c.or-later.ensures, c.refuse_settings.ensures, c.refuse_rows-tests.ensures) at c.or-refusal.ensures
-
-pub returns-then-refusal-ne0 : goal.returns-then-refusal-ne0
-unfolding given_rows
-returns-then-refusal-ne0 c = call_refused (number (goal.at.returns-then-refusal-ne0 c).After-or-refusal) c.if-refusal-ne0.true
+passed c = goes_on _ _ c.in_ok-check_rows.ensures (goes_on _ _ c.in_ok-check_settings.ensures (search rules))
 
 pub solve_rows-requires : goal.solve_rows-requires
-solve_rows-requires c = let number_is = number (goal.at.solve_rows-requires c).After-or-refusal in
-    let zero = c.if-refusal-ne0.false in
-    let q = rows_asked solving c.args.listed _ _ _ _ _ _ number_is zero in
-    let w = settings_sound _ _ _ number_is zero in
+solve_rows-requires c =
+    let number = passed (goal.at.solve_rows-requires c).In_ok-further in
+    let q = rows_asked solving c.args.listed _ _ _ _ _ _ number refl in
+    let w = settings_sound _ _ _ number refl in
     (q.0, fits _ _ c.requires q.1, w.0)
 
 pub returns : goal.returns
-returns c = call_done (number (goal.at.returns c).After-or-refusal) c.if-refusal-ne0.false c.solve_rows.ensures
+returns c = call_done (passed (goal.at.returns c).In_ok-further) refl c.solve_rows.ensures

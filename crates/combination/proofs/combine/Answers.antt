@@ -1,5 +1,4 @@
 -- `combination::combine` meets its contract. Invariant: the first v nodes are added. Assumes nothing.
-use Prim.Native.Nat.{zero-le}
 use mathlib.Core.Path.{◌≡◌, refl}
 use native.Mathlib.Numerals.{add-one}
 use native.Mathlib.Omega.{arith}
@@ -9,13 +8,13 @@ use Rattle.combination.proofs.combine.Goals as goal
 
 pub loop-v-init : goal.loop-v-init
 unfolding combined
-loop-v-init c = (zero-le, refl)
+loop-v-init c = refl
 
 pub loop-v-preserved : goal.loop-v-preserved
 unfolding combined
-loop-v-preserved c = let s = c.loop-v in (omega (arith, c.loop-v-test.true), rw (s.invariant.1, add-one))
+loop-v-preserved c = let s = c.loop-v in rw (s.invariant, add-one)
 
 pub returns : goal.returns
 returns c = let s = c.loop-v in let a = c.args in
-    let e : s.v ≡ length a.backward_estimate.now = omega (arith, s.invariant.0, c.loop-v-test.false) in
-    rw e at s.invariant.1
+    let e : s.v ≡ length a.backward_estimate.now = omega arith in
+    rw e at s.invariant

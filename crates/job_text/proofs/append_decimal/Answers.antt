@@ -4,11 +4,6 @@ use Rattle.job_text.specs.Text.{decimal}
 use Rattle.job_text.proofs.Numerals.{fewest_few, fewest_digits}
 use Rattle.job_text.proofs.append_decimal.Goals as goal
 
-pub append-requires : goal.append-requires
-append-requires c = let d = c.decimal-k in let q = c.requires in
-    let few = fewest_few 10 1 20 _ _ (omega arith) (omega arith) (omega (arith, c.ranges.n)) d.ensures.len in
-    omega (arith, few, d.ensures.in_bounds.1, q)
-
 pub returns : goal.returns
 unfolding decimal
 returns c = let d = c.decimal-k in let n = c.args.n in

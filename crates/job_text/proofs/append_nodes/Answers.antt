@@ -2,7 +2,6 @@
 use native.Mathlib.Nat.{zero-add}
 use native.Mathlib.Numerals.{add-one}
 use native.Mathlib.Omega.{arith}
-use lib.Seq.{take_all}
 use Rattle.job_text.specs.Text.{node_lines}
 use Rattle.job_text.proofs.Growing.{grown_none, grown_then}
 use Rattle.job_text.proofs.NodeLines.{node_lines_more}
@@ -10,22 +9,12 @@ use Rattle.job_text.proofs.append_nodes.Goals as goal
 
 pub loop-v-init : goal.loop-v-init
 unfolding node_lines
-loop-v-init c = record { few = omega arith; near = omega arith; lines = grown_none c.args.at c.args.text.now }
-
-pub append_node-next-requires : goal.append_node-next-requires
-append_node-next-requires c = let i = c.loop-v.invariant in
-    let q = c.requires in
-    omega (arith, i.near, i.lines.same_room, q.1, c.loop-v-test.true)
+loop-v-init c = record { near = omega arith; lines = grown_none c.args.at c.args.text.now }
 
 pub loop-v-preserved : goal.loop-v-preserved
 loop-v-preserved c = let a = c.args in
     let l = c.loop-v in let n = c.append_node-next.ensures in
     record {
-      few = omega (arith, c.loop-v-test.true);
       near = omega (arith, l.invariant.near, n.1);
       lines = rw (add-one, node_lines_more 0 l.v a.estimate.now a.residual.now c.loop-v-test.true c.requires.0, zero-add) (grown_then l.invariant.lines n.0);
     }
-
-pub returns : goal.returns
-returns c = let a = c.args in
-    let l = c.loop-v in rw (take_all l.v a.estimate.now c.loop-v-test.false, take_all l.v a.residual.now (omega (arith, c.loop-v-test.false, c.requires.0))) at l.invariant.lines

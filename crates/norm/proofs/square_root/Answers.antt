@@ -6,8 +6,7 @@ use lib.IntN.{pos}
 use lib.Dec.{T}
 use lib.Ieee.{Float, nan, fin, binary64, fits, is_nan, of_bits, to_bits}
 use lib.Ieee.Bits.{of_bits-to_bits, to_bits-lt}
-use lib.Ieee.Compare.{differs_from_itself}
-use Rattle.numbers.proofs.Order.{no_nan}
+use Rattle.numbers.proofs.Order.{only_nan}
 use Rattle.norm.specs.SquareRoot.{Root}
 use Rattle.norm.proofs.Patterns.{negative, infinite, no_nan-bits}
 use Rattle.norm.proofs.square_root.Goals.{Start}
@@ -31,6 +30,11 @@ minus-zero-is : of_bits binary64 0x8000_0000_0000_0000 ≡ fin true 0 (pos 0)
 unfolding of_bits
 minus-zero-is = refl
 
+-- the constant
+nan_is : nan ≡ of_bits binary64 0x7ff8_0000_0000_0000
+unfolding of_bits
+nan_is = refl
+
 -- where x is y, and y is its own root, x is
 itself : {x y : Float} → x ≡ y → Root y y → Root x x
 itself e h = subst (λ (z : Float). Root z z) (sym e) h
@@ -39,11 +43,8 @@ itself e h = subst (λ (z : Float). Root z z) (sym e) h
 of-pattern : (c : Start) {b : ℕ} {y : Float} → to_bits binary64 c.args.x ≡ b → of_bits binary64 b ≡ y → c.args.x ≡ y
 of-pattern c e h = sym (back c) ∙ ap (of_bits binary64) e ∙ h
 
-pub returns-then-x : goal.returns-then-x
-returns-then-x c = itself (differs_from_itself c.args.x (subst T (sym c.if-x.true) tt)) refl
-
-pub float_to_bits-b : goal.float_to_bits-b
-float_to_bits-b c = no_nan c.args.x c.if-x.false
+pub returns-then-is_nan : goal.returns-then-is_nan
+returns-then-is_nan c = itself (only_nan c.args.x (sym c.is_nan.ensures.value ∙ c.if-is_nan.true)) refl
 
 pub returns-then-b-eq0 : goal.returns-then-b-eq0
 returns-then-b-eq0 c = itself (of-pattern (goal.at.returns-then-b-eq0 c).Start c.if-b-eq0.true zero_is) refl
@@ -52,11 +53,11 @@ pub returns-then-b : goal.returns-then-b
 returns-then-b c = itself (of-pattern (goal.at.returns-then-b c).Start c.if-b.true minus-zero-is) refl
 
 pub returns-then-b-gt9223372036854775808 : goal.returns-then-b-gt9223372036854775808
-returns-then-b-gt9223372036854775808 c = subst (λ (r : Float). Root c.args.x r) (sym c.not_a_number.ensures)
+returns-then-b-gt9223372036854775808 c = subst (λ (r : Float). Root c.args.x r) nan_is
     (subst (λ (x : Float). Root x nan) (back (goal.at.returns-then-b-gt9223372036854775808 c).Start) (negative (to_bits binary64 c.args.x) c.if-b-gt9223372036854775808.true (to_bits-lt binary64 c.args.x (held (goal.at.returns-then-b-gt9223372036854775808 c).Start))))
 
 pub returns-then-b-ge9218868437227405312 : goal.returns-then-b-ge9218868437227405312
-returns-then-b-ge9218868437227405312 c = let ok : T (not (is_nan (of_bits binary64 (to_bits binary64 c.args.x)))) = subst (λ (x : Float). T (not (is_nan x))) (sym (back (goal.at.returns-then-b-ge9218868437227405312 c).Start)) (no_nan c.args.x c.if-x.false) in
+returns-then-b-ge9218868437227405312 c = let ok : T (not (is_nan (of_bits binary64 (to_bits binary64 c.args.x)))) = subst (λ (x : Float). T (not (is_nan x))) (sym (back (goal.at.returns-then-b-ge9218868437227405312 c).Start)) (rw (← c.is_nan.ensures.value, c.if-is_nan.false) tt) in
     itself (sym (back (goal.at.returns-then-b-ge9218868437227405312 c).Start) ∙ infinite (to_bits binary64 c.args.x) c.if-b-ge9218868437227405312.true c.if-b-gt9223372036854775808.false ok c.if-b.false) refl
 
 pub float_from_bits-result : goal.float_from_bits-result

@@ -3,6 +3,6 @@ use Rattle.rules.specs.Rules.{gain}
 use Rattle.pushes.specs.States.{state_in}
 use Rattle.pushes.proofs.pass_on.Goals as goal
 
-pub returns : goal.returns
+pub returns-clause-moved : goal.returns-clause-moved
 unfolding gain state_in
-returns c = let o = c.offer_node in record { lent = o.ensures.lent; state = o.ensures.state }
+returns-clause-moved c = let o = c.offer_node.ensures.moved in record { lent = o.lent; state = o.state }

@@ -8,24 +8,20 @@ use Rattle.pushes.proofs.Moves.{absorb_state}
 use Rattle.pushes.proofs.Tested.{push_none, push_some}
 use Rattle.pushes.proofs.push_node.Goals as goal
 
-pub returns-then-mass : goal.returns-then-mass
+pub returns-then-mass-clause-pushed : goal.returns-then-mass-clause-pushed
 unfolding state_in
-returns-then-mass c = record { lent = c.requires.1.lent; state = λ way st k m. push_none way c.args.alpha c.args.v _ c.if-mass.true }
+returns-then-mass-clause-pushed c = record { lent = c.requires.1.lent; state = λ way st k m. push_none way c.args.alpha c.args.v _ c.if-mass.true }
 
-pub hand_out-requires : goal.hand_out-requires
-hand_out-requires c = let p = c.requires in
-    let l = p.1.lent in
-    (p.0, record { lent = record { heap = l.heap; wide = l.wide; residual_long = c.absorb.auto.residual ∙ l.residual_long }; below = p.1.below })
-
-pub returns : goal.returns
+pub returns-clause-pushed : goal.returns-clause-pushed
 unfolding state_in
-returns c = let a = c.args in
-    let b = c.absorb in let o = c.hand_out in record {
-      lent = o.ensures.lent;
+returns-clause-pushed c = let a = c.args in
+    let f = a.frontier.now in
+    let b = c.absorb in let o = c.hand_out.ensures.moved in record {
+      lent = o.lent;
       state = λ way st k m.
-          o.ensures.state way st b.new.estimate k m
+          o.state way st b.new.estimate k m
           ∙ ap (hand_out way _ a.v)
-          (absorb_state a.alpha (length a.degrees.now) a.v a.estimate.now a.residual.now b.new.estimate b.new.residual b.ensures (progress a.q k)
-          a.priorities.now a.nodes.now m)
+          (absorb_state a.alpha (length a.graph.degrees.now) a.v a.estimate.now f.residual.now b.new.estimate b.new.residual b.ensures (progress f.queue k)
+          f.priorities.now f.nodes.now m)
           ∙ push_some way a.alpha a.v _ c.if-mass.false;
     }

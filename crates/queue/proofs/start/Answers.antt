@@ -41,4 +41,4 @@ empty ps ns ws few paired room =
 
 pub returns : goal.returns
 returns c = let a = c.args in
-    record { threshold_value = refl; holds = rw c.clear.ensures (empty a.priorities.now a.nodes.now a.marks.now c.requires.priorities_len_bound.0 c.requires.priorities_len_bound.1 c.requires.priorities_len_bound_2) }
+    record { threshold_value = refl; holds = rw (c.fill.ensures.after (λ _ e. e)) (empty a.priorities.now a.nodes.now a.marks.now c.requires.priorities_len_bound.0 c.requires.priorities_len_bound.1 c.requires.priorities_len_bound_2) }

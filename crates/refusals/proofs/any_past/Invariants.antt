@@ -1,5 +1,5 @@
--- `refusals::any_past` meets its contract. Invariant: what was found, or is from i on, is what all columns have. Assumes nothing.
-use Prim.Native.Nat.{◌≤◌, ◌-◌}
+-- `refusals::any_past` meets its contract. Invariant: what was found, or is still to come, is what all columns have. Assumes nothing.
+use Prim.Native.Nat.{◌≤◌}
 use mathlib.Core.Bool.{◌||◌}
 use mathlib.Core.Path.{◌≡◌}
 use lib.Dec.{leb}
@@ -7,8 +7,5 @@ use lib.ListN.{length, drop}
 use Rattle.numbers.specs.Tables.{any}
 use Rattle.refusals.proofs.any_past.Given as goal
 
-abbrev pub invariant-loop-i : goal.invariant-loop-i
-invariant-loop-i l = (l.i ≤ length l.columns) × ((l.found || any (λ v. leb l.n v) (drop l.i l.columns)) ≡ any (λ v. leb l.n v) l.columns)
-
-abbrev pub decreases-loop-i : goal.decreases-loop-i
-decreases-loop-i l = length l.columns - l.i
+abbrev pub invariant-loop-column : goal.invariant-loop-column
+invariant-loop-column l = (l.column-index ≤ length l.columns) × ((l.found || any (λ v. leb l.n v) (drop l.column-index l.columns)) ≡ any (λ v. leb l.n v) l.columns)

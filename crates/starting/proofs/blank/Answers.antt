@@ -6,14 +6,15 @@ use Rattle.pushes.specs.States.{state_of}
 use Rattle.starting.proofs.Starting.{blank_state}
 use Rattle.starting.proofs.blank.Goals as goal
 
-pub returns : goal.returns
+pub returns-clause-leaves : goal.returns-clause-leaves
 unfolding state_of
-returns c = let a = c.args in
-    let e = c.clear_floats in let r = c.clear_floats-2 in let m = c.clear in let q = c.start-queue in record {
-      lent = record { heap = q.ensures.holds.heap; wide = refl; residual_long = r.auto.a ∙ c.requires.residual_long };
+returns-clause-leaves c = let f = c.args.frontier.now in
+    let b = c.args.tally.now in
+    let e = c.fill in let r = c.fill-2 in let m = c.fill-3.ensures.after (λ _ e. e) in let q = c.start-queue in record {
+      lent = record { heap = q.ensures.holds.heap; wide = refl; residual_long = r.auto.self ∙ c.requires.residual_long };
       state = λ way _.
-          rw m.ensures
-          (blank_state (length a.priorities.now) e.new.a r.new.a q.result a.priorities.now a.nodes.now (length a.visited.now) a.threshold
-          (rw c.requires.estimate_long at e.ensures) (rw c.requires.residual_long at r.ensures) q.ensures.threshold_value q.ensures.holds.view);
-      beyond = λ u l. rw m.ensures (none_marked (length a.visited.now) u);
+          rw m
+          (blank_state (length f.priorities.now) e.new.self r.new.self q.result f.priorities.now f.nodes.now (length b.visited.now) c.args.threshold
+          (rw c.requires.estimate_long at (e.ensures.after (λ _ e. e))) (rw c.requires.residual_long at (r.ensures.after (λ _ e. e))) q.ensures.threshold_value q.ensures.holds.view);
+      beyond = λ u l. rw m (none_marked (length b.visited.now) u);
     }

@@ -1,6 +1,7 @@
 -- `watching::is_enough` meets its contract: out of range a value reads as a NaN, and nothing is below a NaN. Assumes nothing.
 use mathlib.Core.Bool.{false}
 use mathlib.Core.Path.{◌≡◌, refl}
+use borrow.Author.Tests.{le-ltb}
 use lib.ListN.{get_or-eq_default}
 use lib.Ieee.{Float, nan, inf, fin, lt}
 use Rattle.rules.specs.Rules.{stops}
@@ -19,4 +20,4 @@ returns-then-at-estimate c = λ s e r. rw (e, r)
 
 pub returns-else-at-estimate : goal.returns-else-at-estimate
 unfolding stops
-returns-else-at-estimate c = λ s e r. rw (e, get_or-eq_default c.args.estimate.now nan c.if-at-estimate.false, below_nan c.args.precision)
+returns-else-at-estimate c = λ s e r. rw (le-ltb _ _ c.if-at-estimate.false, e, get_or-eq_default c.args.estimate.now nan c.if-at-estimate.false, below_nan c.args.w.precision)

@@ -1,18 +1,15 @@
--- `edges::search::any_is` meets its contract. Invariant: what was found, or is from i on, is what all columns have. Assumes nothing.
-use Prim.Native.Nat.{ℕ, zero-le}
-use mathlib.Core.Path.{refl}
-use native.Mathlib.Omega.{arith}
+-- `edges::search::any_is` meets its contract: a fold that looks at each column. Assumes nothing.
+use mathlib.Core.Bool.{false, ◌||◌}
+use mathlib.Core.Path.{◌∙◌}
+use borrow.Author.Tests.{tests}
 use lib.Dec.{eqb}
-use Rattle.refusals.proofs.Any.{any_next, any_end}
+use Rattle.std.proofs.Common.{rules}
+use Rattle.std.proofs.lemmas.Iterator.{YieldsList-from_slice}
+use Rattle.std.proofs.lemmas.Iterator.Consumers.{fold_from_yields_List}
+use Rattle.edges.proofs.FirstMatch.{folds_any}
 use Rattle.edges.proofs.search.any_is.Goals as goal
 
-pub loop-i-init : goal.loop-i-init
-loop-i-init c = (zero-le, refl)
-
-pub loop-i-preserved : goal.loop-i-preserved
-loop-i-preserved c = let s = c.loop-i in let a = c.args in
-    (omega arith, any_next (λ (v : ℕ). eqb v a.node) a.columns.now s.i 0 s.found s.invariant.1 (omega arith))
-
 pub returns : goal.returns
-returns c = let s = c.loop-i in let a = c.args in
-    any_end (λ (v : ℕ). eqb v a.node) a.columns.now s.i 0 s.found s.invariant.1 (omega arith)
+returns c = let a = c.args in
+    fold_from_yields_List _ (λ b x. b || eqb x a.node) false c.fold.result c.fold.ensures.ran (YieldsList-from_slice a.columns.now cc) (λ b x d q k. search (rules, tests))
+    ∙ folds_any (λ x. eqb x a.node) false a.columns.now

@@ -20,4 +20,4 @@ unfolding given_rows ends
 returns c = let a = c.args in
     let p = c.requires in
     let z = directed_forward p.0 (rw p.1.degrees_long at c.sum_rows.ensures) refl refl in
-    record { leaves = directed_left z a.settings (watch_in a.watch) a.sources.now c.solve_settled-counts.ensures (rw (degrees_long z) at c.clear_floats.ensures) }
+    record { leaves = directed_left z a.settings (watch_in a.watch) a.sources.now c.solve_settled-counts.ensures (rw (degrees_long z) at (c.fill.ensures.after (λ _ e. e))) }

@@ -9,11 +9,11 @@ use Rattle.calls.proofs.Lengths.{none_besides}
 use Rattle.backward_push.proofs.Reversing.{backward_vectors}
 use Rattle.query_transition_probability.proofs.links.query_transition_probability_links.Goals as goal
 
-pub checked_links-c-requires : goal.checked_links-c-requires
-checked_links-c-requires c = λ _. omega arith
+pub checked_links-counts-requires : goal.checked_links-counts-requires
+checked_links-counts-requires c = λ _. omega arith
 
 pub returns : goal.returns
 unfolding watch_in
 returns c = query_answered _ _ (links_vectors backward_vectors _ _ _ _ _)
-    (no_further refl (c.checked_links-c.ensures [] none_besides))
+    (no_further refl (c.checked_links-counts.ensures [] none_besides))
     c.answered.ensures

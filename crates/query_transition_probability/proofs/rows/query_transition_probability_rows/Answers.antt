@@ -9,11 +9,11 @@ use Rattle.calls.proofs.Lengths.{none_besides}
 use Rattle.backward_push.proofs.Reversing.{backward_vectors}
 use Rattle.query_transition_probability.proofs.rows.query_transition_probability_rows.Goals as goal
 
-pub checked_rows-c-requires : goal.checked_rows-c-requires
-checked_rows-c-requires c = λ _. omega arith
+pub checked_rows-counts-requires : goal.checked_rows-counts-requires
+checked_rows-counts-requires c = λ _. omega arith
 
 pub returns : goal.returns
 unfolding watch_in
 returns c = query_answered _ _ (rows_vectors backward_vectors _ _ _ _ _)
-    (no_further refl (c.checked_rows-c.ensures [] none_besides))
+    (no_further refl (c.checked_rows-counts.ensures [] none_besides))
     c.answered.ensures

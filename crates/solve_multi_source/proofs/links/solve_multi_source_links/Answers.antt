@@ -5,9 +5,9 @@ use Rattle.calls.proofs.Leaving.{no_further, solve_measured}
 use Rattle.calls.proofs.Vectors.{forward_vectors, links_vectors}
 use Rattle.solve_multi_source.proofs.links.solve_multi_source_links.Goals as goal
 
-pub checked_links-c-requires : goal.checked_links-c-requires
-checked_links-c-requires c = λ h. h
+pub checked_links-counts-requires : goal.checked_links-counts-requires
+checked_links-counts-requires c = λ h. h
 
 pub returns : goal.returns
 unfolding watch_in
-returns c = solve_measured (links_vectors forward_vectors _ _ _ _ _) (no_further refl c.checked_links-c.ensures) c.measured.ensures
+returns c = solve_measured (links_vectors forward_vectors _ _ _ _ _) (no_further refl c.checked_links-counts.ensures) c.measured.ensures

@@ -5,9 +5,9 @@ use Rattle.calls.proofs.Leaving.{no_further, solve_measured}
 use Rattle.calls.proofs.Vectors.{forward_vectors, rows_vectors}
 use Rattle.solve_multi_source.proofs.rows.solve_multi_source_rows.Goals as goal
 
-pub checked_rows-c-requires : goal.checked_rows-c-requires
-checked_rows-c-requires c = λ h. h
+pub checked_rows-counts-requires : goal.checked_rows-counts-requires
+checked_rows-counts-requires c = λ h. h
 
 pub returns : goal.returns
 unfolding watch_in
-returns c = solve_measured (rows_vectors forward_vectors _ _ _ _ _) (no_further refl c.checked_rows-c.ensures) c.measured.ensures
+returns c = solve_measured (rows_vectors forward_vectors _ _ _ _ _) (no_further refl c.checked_rows-counts.ensures) c.measured.ensures

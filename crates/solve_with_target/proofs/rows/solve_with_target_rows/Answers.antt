@@ -5,9 +5,9 @@ use Rattle.calls.proofs.Leaving.{with_further, solve_measured}
 use Rattle.calls.proofs.Vectors.{forward_vectors, rows_vectors}
 use Rattle.solve_with_target.proofs.rows.solve_with_target_rows.Goals as goal
 
-pub checked_rows-c-requires : goal.checked_rows-c-requires
-checked_rows-c-requires c = λ _. omega arith
+pub checked_rows-counts-requires : goal.checked_rows-counts-requires
+checked_rows-counts-requires c = λ _. omega arith
 
 pub returns : goal.returns
 unfolding watch_in
-returns c = solve_measured (rows_vectors forward_vectors _ _ _ _ _) (with_further c.refuse_precision-further.ensures c.checked_rows-c.ensures) c.measured.ensures
+returns c = solve_measured (rows_vectors forward_vectors _ _ _ _ _) (with_further c.check_precision-further.ensures c.checked_rows-counts.ensures) c.measured.ensures

@@ -1,9 +1,0 @@
--- `job_text::hex_digit` meets its contract: a figure below 10, a small letter from 10 on. Assumes nothing.
-use borrow.Author.Tests.{lt-ltb, le-ltb}
-use Rattle.job_text.proofs.hex_digit.Goals as goal
-
-pub returns-then-d-lt10 : goal.returns-then-d-lt10
-returns-then-d-lt10 c = rw (lt-ltb c.args.d 10 c.if-d-lt10.true)
-
-pub returns-else-d-lt10 : goal.returns-else-d-lt10
-returns-else-d-lt10 c = rw (le-ltb c.args.d 10 c.if-d-lt10.false)

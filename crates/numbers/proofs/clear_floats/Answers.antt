@@ -1,7 +1,0 @@
--- `numbers::clear_floats` meets its contract: all the places are those from 0 on. Assumes nothing.
-use mathlib.Core.Path.{◌∙◌}
-use native.Mathlib.Nat.{sub-zero}
-use Rattle.numbers.proofs.clear_floats.Goals as goal
-
-pub returns : goal.returns
-returns c = c.clear_floats_from.ensures ∙ rw sub-zero

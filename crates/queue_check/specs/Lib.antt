@@ -1,2 +1,0 @@
--- The definitions that the contracts of `queue_check` cite.
-pub mod QueueReady

@@ -1,7 +1,0 @@
--- `refusals::refuse_alpha` meets its contract. Assumes nothing.
-use Rattle.refusals.specs.Refusals.{refuse_alpha}
-use Rattle.refusals.proofs.refuse_alpha.Goals as goal
-
-pub returns : goal.returns
-unfolding refuse_alpha
-returns c = cc
