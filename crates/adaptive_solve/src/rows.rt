@@ -1,67 +1,46 @@
 // The score by whichever solve the degrees of source and target speak for, or by both, of rows.
 ghost use Rattle.std.specs.Prelude.{◌≡◌};
 ghost use Rattle.refusals.specs.Calls.{outcome_of};
-ghost use Rattle.calls.specs.Lent.{solve_lent, scored_for};
-ghost use Rattle.calls.specs.Outcomes.{given_rows};
-ghost use Rattle.backward_push.specs.Lent.{back_lent};
-ghost use Rattle.bidirectional_push.specs.Lent.{both_lent, joining};
+ghost use Rattle.calls.specs.Lent.{scored_for};
+ghost use Rattle.calls.specs.Slices.{given_rows_in, SameVectors, SameWorkspace};
+ghost use Rattle.backward_push.specs.Slices.{SameReverseBuffers};
+ghost use Rattle.bidirectional_push.specs.Lent.{both_lent_in, joining};
 ghost use Rattle.bidirectional_push.specs.Outcomes.{adaptive_solve};
 
+use backward_push::reversed::ReverseBuffers;
+use calls::lent::{Rows, Vectors, Workspace};
 use refusals::Settings;
 use refusals::refusal::Refusal;
 
-pub fn adaptive_solve_rows<'a>(
-    n: u32,
-    starts: &[u32],
-    columns: &'a [u32],
-    weights: &'a [f64],
+pub fn adaptive_solve_rows(
+    rows: Rows<'_>,
     source: u32,
     target: u32,
     forward_settings: Settings,
     backward_settings: Settings,
-    forward_estimate: &mut [f64],
-    forward_residual: &mut [f64],
-    backward_estimate: &mut [f64],
-    backward_residual: &mut [f64],
-    reverse_starts: &mut [u32],
-    reverse_columns: &mut [u32],
-    reverse_weights: &mut [f64],
-    in_degrees: &mut [f64],
-    out_degrees: &mut [f64],
-    priorities: &mut [f64],
-    nodes: &mut [u32],
-    queued: &mut [u64],
-    visited: &mut [u64],
+    forward: &mut Vectors<'_>,
+    backward: &mut Vectors<'_>,
+    reverse: &mut ReverseBuffers<'_>,
+    workspace: &mut Workspace<'_>,
 ) -> Result<f64, Refusal>
-    ensures { outcome_of (scored_for result) (both_lent forward_estimate.new forward_residual.new (back_lent reverse_starts.new reverse_columns.new reverse_weights.new out_degrees.new
-        (solve_lent backward_estimate.new backward_residual.new in_degrees.new priorities.new nodes.new queued.new visited.new)))
-        ≡ adaptive_solve (given_rows joining n starts.now columns.now weights.now
-        (both_lent forward_estimate.old forward_residual.old (back_lent reverse_starts.old reverse_columns.old reverse_weights.old out_degrees.old
-        (solve_lent backward_estimate.old backward_residual.old in_degrees.old priorities.old nodes.old queued.old visited.old))))
+    ensures same_forward { SameVectors forward.old forward.new }
+    ensures same_backward { SameVectors backward.old backward.new }
+    ensures same_reverse { SameReverseBuffers reverse.old reverse.new }
+    ensures same_workspace { SameWorkspace workspace.old workspace.new }
+    ensures outcome { outcome_of (scored_for result) (both_lent_in forward.new backward.new reverse.new workspace.new)
+        ≡ adaptive_solve (given_rows_in joining rows.entry (both_lent_in forward.old backward.old reverse.old workspace.old))
         source target forward_settings backward_settings }
 {
     checked_bidirectional_rows::checked_rows(
-        n,
-        starts,
-        columns,
-        weights,
+        rows,
         source,
         target,
         true,
         forward_settings,
         backward_settings,
-        forward_estimate,
-        forward_residual,
-        backward_estimate,
-        backward_residual,
-        reverse_starts,
-        reverse_columns,
-        reverse_weights,
-        in_degrees,
-        out_degrees,
-        priorities,
-        nodes,
-        queued,
-        visited,
+        forward,
+        backward,
+        reverse,
+        workspace,
     )
 }

@@ -5,84 +5,41 @@ ghost use Rattle.refusals.specs.Refusals.{Sound};
 ghost use Rattle.graph.specs.Store.{RowBuffers};
 ghost use Rattle.rules.specs.Ways.{push_backward};
 ghost use Rattle.watching.specs.Watching.{watch_in};
-ghost use Rattle.calls.specs.Lent.{solve_lent, done_counts};
-ghost use Rattle.calls.specs.Outcomes.{given_rows};
+ghost use Rattle.calls.specs.Lent.{done_counts};
+ghost use Rattle.calls.specs.Slices.{lent_in, given_rows_in, SameVectors, SameWorkspace};
 ghost use Rattle.calls.specs.Promises.{Fits, Settles};
-ghost use Rattle.backward_push.specs.Lent.{back_lent, reversing};
+ghost use Rattle.backward_push.specs.Lent.{reversing};
+ghost use Rattle.backward_push.specs.Slices.{back_lent_in, SameReverseBuffers};
 
 use crate::reversed;
+use crate::reversed::ReverseBuffers;
 use calls::Counts;
+use calls::lent::{Rows, Vectors, Workspace};
 use refusals::Settings;
 use watching::Watched;
 
 // A backward solve of rows. The queue's nodes serve as positions while the rows are reversed.
-pub fn solve_rows<'a>(
-    n: u32,
-    starts: &[u32],
-    columns: &'a [u32],
-    weights: &'a [f64],
+pub fn solve_rows(
+    rows: Rows<'_>,
     targets: &[u32],
     watch: Option<Watched>,
     settings: Settings,
-    estimate: &mut [f64],
-    residual: &mut [f64],
-    reverse_starts: &mut [u32],
-    reverse_columns: &mut [u32],
-    reverse_weights: &mut [f64],
-    in_degrees: &mut [f64],
-    out_degrees: &mut [f64],
-    priorities: &mut [f64],
-    nodes: &mut [u32],
-    queued: &mut [u64],
-    visited: &mut [u64],
+    vectors: &mut Vectors<'_>,
+    reverse: &mut ReverseBuffers<'_>,
+    workspace: &mut Workspace<'_>,
 ) -> Counts
-    requires { RowBuffers n starts.now columns.now weights.now reverse_starts.old reverse_columns.old reverse_weights.old nodes.old
-        × (length out_degrees.old ≡ n)
-        × Fits n targets.now (solve_lent estimate.old residual.old in_degrees.old priorities.old nodes.old queued.old visited.old) × Sound settings }
-    ensures { Settles push_backward (given_rows reversing n starts.now columns.now weights.now
-        (back_lent reverse_starts.old reverse_columns.old reverse_weights.old out_degrees.old
-        (solve_lent estimate.old residual.old in_degrees.old priorities.old nodes.old queued.old visited.old)))
-        settings (watch_in watch) targets.now
-        (outcome_of (done_counts result) (back_lent reverse_starts.new reverse_columns.new reverse_weights.new out_degrees.new
-        (solve_lent estimate.new residual.new in_degrees.new priorities.new nodes.new queued.new visited.new))) }
+    requires { RowBuffers rows.nodes rows.starts.now rows.columns.now rows.weights.now reverse.old.starts.now reverse.old.columns.now reverse.old.weights.now workspace.old.nodes.now
+        × (length reverse.old.out_degrees.now ≡ rows.nodes)
+        × Fits rows.nodes targets.now (lent_in vectors.old reverse.old.in_degrees.now workspace.old) × Sound settings }
+    ensures same_vectors { SameVectors vectors.old vectors.new }
+    ensures same_reverse { SameReverseBuffers reverse.old reverse.new }
+    ensures same_workspace { SameWorkspace workspace.old workspace.new }
+    ensures settles { Settles push_backward (given_rows_in reversing rows.entry (back_lent_in reverse.old vectors.old workspace.old))
+        settings (watch_in watch) targets.now (outcome_of (done_counts result) (back_lent_in reverse.new vectors.new workspace.new)) }
 {
-    reversed::reverse(
-        n,
-        starts,
-        columns,
-        weights,
-        reverse_starts,
-        reverse_columns,
-        reverse_weights,
-        in_degrees,
-        out_degrees,
-        nodes,
-    );
-    let counts = calls::solve_settled(
-        settings,
-        true,
-        watch,
-        targets,
-        reverse_starts,
-        columns,
-        reverse_columns,
-        weights,
-        reverse_weights,
-        in_degrees,
-        out_degrees,
-        estimate,
-        residual,
-        priorities,
-        nodes,
-        queued,
-        visited,
-    );
-    reversed::clear(
-        reverse_starts,
-        reverse_columns,
-        reverse_weights,
-        in_degrees,
-        out_degrees,
-    );
+    reversed::reverse(rows, reverse, workspace.nodes);
+    let graph = reversed::backward_graph(rows, reverse);
+    let counts = calls::solve_settled(settings, watch, targets, graph, vectors, workspace);
+    reversed::clear(reverse);
     counts
 }

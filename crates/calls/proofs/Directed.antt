@@ -2,7 +2,7 @@
 use Prim.Native.Nat.{ℕ, ◌<◌}
 use mathlib.Core.Bool.{Bool, false}
 use mathlib.Core.List.{List}
-use mathlib.Core.Path.{◌≡◌, refl, ap, ◌∙◌}
+use mathlib.Core.Path.{◌≡◌, refl, sym, ap, subst, ◌∙◌}
 use lib.ListN.{length, get_or, replicate}
 use lib.Ieee.{Float, nan}
 use Rattle.numbers.specs.Numbers.{+0}
@@ -14,8 +14,9 @@ use Rattle.graph.specs.Store.{chosen, Rowed, degrees_in}
 use Rattle.graph.proofs.Read.{length-degrees}
 use Rattle.rules.specs.Ways.{over, row_at}
 use Rattle.rules.specs.Rules.{Watch, solve, at}
-use Rattle.pushes.specs.Buffers.{lists_of, Rows}
-use Rattle.pushes.specs.Meant.{Stands}
+use Rattle.pushes.specs.declared.Graph.{Graph}
+use Rattle.pushes.specs.Buffers.{Lists, lists_of, Rows, nodes_in, lists_in, RowsIn}
+use Rattle.pushes.specs.Meant.{Stands, StandsIn}
 use Rattle.solver.proofs.Graphs.{stands_over}
 use Rattle.calls.specs.Lent.{Counted}
 use Rattle.calls.specs.Lent.{solve_lent, solve_done}
@@ -87,3 +88,25 @@ module _ {n : ℕ} {backward : Bool} {rows : List (List Entry)} {starts columns 
     directed_left c =
         settled_left (rw degrees_long at d) c (over backward n rows)
         (stands_over n backward rows (lists_of starts columns columns' weights weights' degrees out_degrees) z.rowed z.rows_are z.out_degrees_are)
+
+-- ---- the graph of a call, which holds these lists
+
+module _ (g : Graph) {l : Lists} (e : lists_in g ≡ l) where
+  pub graph_fits : {sources : List ℕ} {estimate residual priorities : List Float} {nodes queued visited : List ℕ}
+      → Fits (length l.degrees) sources (solve_lent estimate residual l.degrees priorities nodes queued visited)
+      → Fits (nodes_in g) sources (solve_lent estimate residual g.degrees.now priorities nodes queued visited)
+  graph_fits {sources} {estimate} {residual} {priorities} {nodes} {queued} {visited} f =
+      subst (λ (x : Lists). Fits (length x.degrees) sources (solve_lent estimate residual x.degrees priorities nodes queued visited)) (sym e) f
+
+  module _ {backward : Bool} (b : g.backward ≡ backward) where
+    pub graph_ready : Rows (length l.degrees) backward l → RowsIn g
+    graph_ready r = subst (λ (x : Lists). Rows (length x.degrees) g.backward x) (sym e) (rw b r)
+
+    pub graph_settled : (settings : Settings) (watch : Watch) (sources : List ℕ) {r : Counted} {estimate residual priorities : List Float} {nodes queued visited : List ℕ}
+        → SolveSettled (StandsIn g) (λ way. solve way settings watch (nodes_in g) sources) (nodes_in g) r estimate residual priorities nodes queued visited
+        → SolveSettled (Stands (length l.degrees) backward l) (λ way. solve way settings watch (length l.degrees) sources) (length l.degrees) r estimate residual priorities nodes queued visited
+    graph_settled settings watch sources {r} {estimate} {residual} {priorities} {nodes} {queued} {visited} d =
+        subst
+        (λ (x : Lists).
+        SolveSettled (Stands (length x.degrees) backward x) (λ way. solve way settings watch (length x.degrees) sources) (length x.degrees) r estimate residual priorities nodes queued visited)
+        e (rw b at d)

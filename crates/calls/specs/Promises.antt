@@ -13,6 +13,8 @@ use Rattle.pushes.specs.Buffers.{Room}
 use Rattle.calls.specs.Lent.{Counted}
 use Rattle.calls.specs.declared.Solved.{Solved}
 use Rattle.calls.specs.declared.Scored.{Scored}
+use Rattle.calls.specs.declared.lent.Vectors.{Vectors}
+use Rattle.calls.specs.declared.lent.Workspace.{Workspace}
 use Rattle.calls.specs.Lent.{words, counted_of, solved_of, scored_of, SolveLent}
 use Rattle.calls.specs.Outcomes.{Given, ends, unmeasured}
 
@@ -48,6 +50,10 @@ pub record SolveSettled (meant : Way → Type 0) (f : Way → State) (n : ℕ) (
   pub nodes_zero : nodes ≡ replicate n 0
   pub queued_zero : queued ≡ replicate (words n) 0
   pub visited_zero : visited ≡ replicate (words n) 0
+
+-- the same of the structs of a call
+abbrev pub SettledIn : (Way → Type 0) → (Way → State) → ℕ → Counted → Vectors → Workspace → Type 0
+SettledIn meant f n r v w = SolveSettled meant f n r v.estimate.now v.residual.now w.priorities.now w.nodes.now w.queued.now w.visited.now
 
 -- a solve left the counts of the state that it ends in, and the lent buffers as they are after it
 pub record Settles {B : Type 0} (backward : Bool) (g : Given State B) (s : Settings) (watch : Watch) (sources : List ℕ) (x : Outcome Counted B) : Type 0 where

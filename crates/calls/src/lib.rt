@@ -2,17 +2,21 @@
 // that counts its nodes and clears the queue's workspace.
 #![tactic(auto)]
 
+pub mod lent;
+
 ghost use Rattle.std.specs.Prelude.{false, ◌≡◌, [], ◌∷◌, ◌+◌, length, get_or};
 ghost use Rattle.numbers.specs.Numbers.{+0};
 ghost use Rattle.refusals.specs.Refusals.{lengths_differ, Sound};
 ghost use Rattle.rules.specs.Rules as Rules;
 ghost use Rattle.rules.specs.Answers.{extrapolated};
 ghost use Rattle.watching.specs.Watching.{watch_in};
-ghost use Rattle.pushes.specs.Buffers.{lists_of, Rows};
-ghost use Rattle.pushes.specs.Meant.{Stands};
-ghost use Rattle.calls.specs.Lent.{words, done_counts, counted_for, solved_for, scored_for, solve_lent};
-ghost use Rattle.calls.specs.Promises.{Fits, Measured, Queried, SolveSettled};
+ghost use Rattle.pushes.specs.Buffers.{nodes_in, RowsIn};
+ghost use Rattle.pushes.specs.Meant.{StandsIn};
+ghost use Rattle.calls.specs.Lent.{words, done_counts, counted_for, solved_for, scored_for};
+ghost use Rattle.calls.specs.Slices.{lent_in, links_lengths, rows_lengths, SameVectors, SameWorkspace};
+ghost use Rattle.calls.specs.Promises.{Fits, Measured, Queried, SettledIn};
 
+use lent::{Found, Links, RowBuffers, Rows, Vectors, Workspace};
 use pushes::{Frontier, Graph, Tally};
 use queue::WorkQueue;
 use refusals::Settings;
@@ -91,80 +95,54 @@ impl From<Result<f64, Refusal>> for Scored {
 pub fn solve_lengths_differ(
     before: bool,
     n: u32,
-    estimate: usize,
-    residual: usize,
+    vectors: &Vectors<'_>,
     degrees: usize,
-    priorities: usize,
-    nodes: usize,
-    queued: usize,
-    visited: usize,
+    workspace: &Workspace<'_>,
 ) -> bool
-    ensures { result ≡ lengths_differ before ((estimate, n) ∷ (residual, n) ∷ (degrees, n) ∷ (priorities, n) ∷ (nodes, n) ∷ (queued, words n) ∷ (visited, words n) ∷ []) }
+    ensures { result ≡ lengths_differ before ((length vectors.now.estimate.now, n) ∷ (length vectors.now.residual.now, n) ∷ (degrees, n)
+        ∷ (length workspace.now.priorities.now, n) ∷ (length workspace.now.nodes.now, n)
+        ∷ (length workspace.now.queued.now, words n) ∷ (length workspace.now.visited.now, words n) ∷ []) }
 {
     let k = n as usize;
     let w = (k + 63) / 64;
     before
-        | (estimate != k)
-        | (residual != k)
+        | (vectors.estimate.len() != k)
+        | (vectors.residual.len() != k)
         | (degrees != k)
-        | (priorities != k)
-        | (nodes != k)
-        | (queued != w)
-        | (visited != w)
+        | (workspace.priorities.len() != k)
+        | (workspace.nodes.len() != k)
+        | (workspace.queued.len() != w)
+        | (workspace.visited.len() != w)
 }
 
-// Whether a test failed before, or a buffer for reverse rows of m entries, or for out-degrees, has another length than
-// stated.
-pub fn reverse_lengths_differ(
-    before: bool,
-    n: u32,
-    m: usize,
-    reverse_starts: usize,
-    reverse_columns: usize,
-    reverse_weights: usize,
-    out_degrees: usize,
-) -> bool
-    ensures { result ≡ lengths_differ before ((reverse_starts, n + 1) ∷ (reverse_columns, m) ∷ (reverse_weights, m) ∷ (out_degrees, n) ∷ []) }
+// Whether a list of a call with links, or a buffer for their rows, has another length than stated.
+pub fn links_lengths_differ(links: Links<'_>, made: &RowBuffers<'_>) -> bool
+    ensures { result ≡ lengths_differ false (links_lengths links.entry made.now) }
 {
-    let k = n as usize;
-    before
-        | (reverse_starts != k + 1)
-        | (reverse_columns != m)
-        | (reverse_weights != m)
-        | (out_degrees != k)
+    let m = links.from.len();
+    (links.to.len() != m)
+        | (links.weight.len() != m)
+        | (made.starts.len() != links.nodes as usize + 1)
+        | (made.columns.len() != m)
+        | (made.weights.len() != m)
 }
 
-// Whether a list of a call with m links, or a buffer for their rows, has another length than stated.
-pub fn links_lengths_differ(
-    n: u32,
-    m: usize,
-    to: usize,
-    weight: usize,
-    starts: usize,
-    columns: usize,
-    weights: usize,
-) -> bool
-    ensures { result ≡ lengths_differ false ((to, m) ∷ (weight, m) ∷ (starts, n + 1) ∷ (columns, m) ∷ (weights, m) ∷ []) }
+// Whether a list of a call with rows has another length than stated.
+pub fn rows_lengths_differ(rows: Rows<'_>) -> bool
+    ensures { result ≡ lengths_differ false (rows_lengths rows.entry) }
 {
-    (to != m) | (weight != m) | (starts != n as usize + 1) | (columns != m) | (weights != m)
-}
-
-// Whether a list of a call with rows of m entries has another length than stated.
-pub fn rows_lengths_differ(n: u32, m: usize, starts: usize, weights: usize) -> bool
-    ensures { result ≡ lengths_differ false ((starts, n + 1) ∷ (weights, m) ∷ []) }
-{
-    (starts != n as usize + 1) | (weights != m)
+    (rows.starts.len() != rows.nodes as usize + 1) | (rows.weights.len() != rows.columns.len())
 }
 
 // The answer of a solve, with the norm of its residual if it is done.
-pub fn measured(counts: Result<Counts, Refusal>, residual: &[f64]) -> Result<Summary, Refusal>
-    ensures { Measured (counted_for counts) residual.now (solved_for result) }
+pub fn measured(counts: Result<Counts, Refusal>, vectors: &Vectors<'_>) -> Result<Summary, Refusal>
+    ensures { Measured (counted_for counts) vectors.now.residual.now (solved_for result) }
 {
     let counts = counts?;
     Ok(Summary {
         push_count: counts.push_count,
         nodes_visited: counts.nodes_visited,
-        residual_norm: norm::compute_residual_norm(residual),
+        residual_norm: norm::compute_residual_norm(vectors.residual),
     })
 }
 
@@ -181,81 +159,65 @@ pub fn score_at(estimate: &[f64], v: u32) -> f64
 }
 
 // The answer of a query, which is the score of v if its solve is done.
-pub fn answered(counts: Result<Counts, Refusal>, estimate: &[f64], v: u32) -> Result<f64, Refusal>
-    ensures { Queried (counted_for counts).refusal estimate.now v (scored_for result) }
+pub fn answered(
+    counts: Result<Counts, Refusal>,
+    vectors: &Vectors<'_>,
+    v: u32,
+) -> Result<f64, Refusal>
+    ensures { Queried (counted_for counts).refusal vectors.now.estimate.now v (scored_for result) }
 {
     counts?;
-    Ok(score_at(estimate, v))
+    Ok(score_at(vectors.estimate, v))
 }
 
 // The solution that the residual of a solve lets expect: the estimate and alpha times the residual, node by node.
-pub fn extrapolate(estimate: &[f64], residual: &[f64], alpha: f64, solution: &mut [f64])
-    requires { (length residual.now ≡ length estimate.now) × (length solution.old ≡ length estimate.now) }
-    ensures { solution.new ≡ extrapolated alpha (length estimate.now) estimate.now residual.now }
+pub fn extrapolate(found: Found<'_>, alpha: f64, solution: &mut [f64])
+    requires { (length found.residual.now ≡ length found.estimate.now) × (length solution.old ≡ length found.estimate.now) }
+    ensures { solution.new ≡ extrapolated alpha (length found.entry.estimate.now) found.entry.estimate.now found.entry.residual.now }
 {
-    for v in 0..estimate.len() {
-        solution[v] = estimate[v] + alpha * residual[v];
+    for v in 0..found.estimate.len() {
+        solution[v] = found.estimate[v] + alpha * found.residual[v];
     }
 }
 
 // A whole solve, as `solver::solve` has it, that counts the visited nodes and leaves the workspace of the queue and the
 // marks cleared.
-pub fn solve_settled<'a, 'b>(
+pub fn solve_settled(
     settings: Settings,
-    backward: bool,
     watch: Option<Watched>,
     sources: &[u32],
-    starts: &'a [u32],
-    columns: &'a [u32],
-    reverse_columns: &'a [u32],
-    weights: &'a [f64],
-    reverse_weights: &'a [f64],
-    degrees: &'a [f64],
-    out_degrees: &'a [f64],
-    estimate: &'b mut [f64],
-    residual: &'b mut [f64],
-    priorities: &'b mut [f64],
-    nodes: &'b mut [u32],
-    queued: &'b mut [u64],
-    visited: &'b mut [u64],
+    graph: Graph<'_>,
+    vectors: &mut Vectors<'_>,
+    workspace: &mut Workspace<'_>,
 ) -> Counts
-    requires { Rows (length degrees.now) backward (lists_of starts.now columns.now reverse_columns.now weights.now reverse_weights.now degrees.now out_degrees.now)
-        × Fits (length degrees.now) sources.now (solve_lent estimate.old residual.old degrees.now priorities.old nodes.old queued.old visited.old) × Sound settings }
-    ensures { SolveSettled (Stands (length degrees.now) backward (lists_of starts.now columns.now reverse_columns.now weights.now reverse_weights.now degrees.now out_degrees.now))
-        (λ way. Rules.solve way settings (watch_in watch) (length degrees.now) sources.now)
-        (length degrees.now) (done_counts result) estimate.new residual.new priorities.new nodes.new queued.new visited.new }
+    requires { RowsIn graph × Fits (nodes_in graph) sources.now (lent_in vectors.old graph.degrees.now workspace.old) × Sound settings }
+    ensures same_vectors { SameVectors vectors.old vectors.new }
+    ensures same_workspace { SameWorkspace workspace.old workspace.new }
+    ensures settled { SettledIn (StandsIn graph.entry) (λ way. Rules.solve way settings (watch_in watch) (nodes_in graph.entry) sources.now)
+        (nodes_in graph.entry) (done_counts result) vectors.new workspace.new }
 {
-    let graph = Graph {
-        backward,
-        starts,
-        columns,
-        reverse_columns,
-        weights,
-        reverse_weights,
-        degrees,
-        out_degrees,
-    };
+    // Any record does, since the start writes it anew.
     let queue = WorkQueue {
         threshold: settings.queue_threshold,
         size: 0,
     };
     let mut frontier = Frontier {
         queue,
-        residual,
-        priorities,
-        nodes,
-        queued,
+        residual: &mut *vectors.residual,
+        priorities: &mut *workspace.priorities,
+        nodes: &mut *workspace.nodes,
+        queued: &mut *workspace.queued,
     };
     let mut tally = Tally {
         pushes: 0,
-        estimate,
-        visited,
+        estimate: &mut *vectors.estimate,
+        visited: &mut *workspace.visited,
     };
     solver::solve(settings, watch, sources, graph, &mut frontier, &mut tally);
     let push_count = tally.pushes;
-    let ones = marks::count(visited);
-    queue::clear(priorities, nodes, queued);
-    visited.fill(0);
+    let ones = marks::count(workspace.visited);
+    queue::clear(workspace.priorities, workspace.nodes, workspace.queued);
+    workspace.visited.fill(0);
     Counts {
         push_count,
         nodes_visited: ones as u64,

@@ -6,6 +6,7 @@ ghost use Rattle.rules.specs.Answers.{method_among};
 ghost use Rattle.combination.specs.Methods.{method_for, Follows, score_by};
 
 use crate::{Uses, combine};
+use calls::lent::Found;
 
 // Both solves or, in adaptive mode, those that the degrees of source and target speak for.
 pub fn choose(
@@ -59,30 +60,22 @@ pub fn score(
     alpha: f64,
     source: u32,
     target: u32,
-    backward_estimate: &[f64],
-    backward_residual: &[f64],
-    forward_estimate: &[f64],
-    forward_residual: &[f64],
+    backward: Found<'_>,
+    forward: Found<'_>,
 ) -> f64
-    requires { (length backward_residual.now ≡ length backward_estimate.now) × (length forward_estimate.now ≡ length backward_estimate.now)
-        × (length forward_residual.now ≡ length backward_estimate.now) }
-    ensures { result ≡ score_by uses alpha source target backward_estimate.now backward_residual.now forward_estimate.now
-        forward_residual.now }
+    requires { (length backward.residual.now ≡ length backward.estimate.now) × (length forward.estimate.now ≡ length backward.estimate.now)
+        × (length forward.residual.now ≡ length backward.estimate.now) }
+    ensures { result ≡ score_by uses alpha source target backward.entry.estimate.now backward.entry.residual.now forward.entry.estimate.now
+        forward.entry.residual.now }
 {
     if uses.forward {
         if uses.backward {
-            return combine(
-                backward_estimate,
-                backward_residual,
-                forward_estimate,
-                forward_residual,
-                alpha,
-            );
+            return combine(backward, forward, alpha);
         }
-        return calls::score_at(forward_estimate, target);
+        return calls::score_at(forward.estimate, target);
     }
     if uses.backward {
-        return calls::score_at(backward_estimate, source);
+        return calls::score_at(backward.estimate, source);
     }
     0.0
 }

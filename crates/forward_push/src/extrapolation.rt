@@ -4,21 +4,21 @@ ghost use Rattle.refusals.specs.Answered.{number_in};
 ghost use Rattle.refusals.specs.Calls.{outcome_of};
 ghost use Rattle.forward_push.specs.Outcomes.{extrapolating};
 
+use calls::lent::Found;
 use refusals::refusal::Refusal;
 
-// Estimate + alpha × residual, refused by 1, 3 and 6.
+// Estimate + alpha × residual, refused for too many nodes, a wrong length or alpha.
 pub fn extrapolated_solution(
-    estimate: &[f64],
-    residual: &[f64],
+    found: Found<'_>,
     alpha: f64,
     solution: &mut [f64],
 ) -> Result<(), Refusal>
-    ensures { outcome_of (number_in result) solution.new ≡ extrapolating estimate.now residual.now alpha solution.old }
+    ensures { outcome_of (number_in result) solution.new ≡ extrapolating found.entry.estimate.now found.entry.residual.now alpha solution.old }
 {
-    let n = estimate.len();
-    let differ = (residual.len() != n) | (solution.len() != n);
+    let n = found.estimate.len();
+    let differ = (found.residual.len() != n) | (solution.len() != n);
     refusals::check_sizes(n, 0, 0, differ)?;
     refusals::check_alpha(alpha)?;
-    calls::extrapolate(estimate, residual, alpha, solution);
+    calls::extrapolate(found, alpha, solution);
     Ok(())
 }

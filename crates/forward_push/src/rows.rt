@@ -4,43 +4,45 @@ ghost use Rattle.refusals.specs.Refusals.{Sound};
 ghost use Rattle.graph.specs.Store.{Rowed};
 ghost use Rattle.rules.specs.Ways.{push_forward};
 ghost use Rattle.watching.specs.Watching.{watch_in};
-ghost use Rattle.calls.specs.Lent.{solve_lent, solving, done_counts};
-ghost use Rattle.calls.specs.Outcomes.{given_rows};
+ghost use Rattle.calls.specs.Lent.{solving, done_counts};
+ghost use Rattle.calls.specs.Slices.{lent_in, given_rows_in, SameVectors, SameWorkspace};
 ghost use Rattle.calls.specs.Promises.{Fits, Settles};
 
 use calls::Counts;
+use calls::lent::{Rows, Vectors, Workspace};
+use pushes::Graph;
 use refusals::Settings;
 use watching::Watched;
 
 // A forward solve of rows.
-pub fn solve_rows<'a>(
-    n: u32,
-    starts: &[u32],
-    columns: &'a [u32],
-    weights: &'a [f64],
+pub fn solve_rows(
+    rows: Rows<'_>,
     sources: &[u32],
     watch: Option<Watched>,
     settings: Settings,
-    estimate: &mut [f64],
-    residual: &mut [f64],
+    vectors: &mut Vectors<'_>,
     degrees: &mut [f64],
-    priorities: &mut [f64],
-    nodes: &mut [u32],
-    queued: &mut [u64],
-    visited: &mut [u64],
+    workspace: &mut Workspace<'_>,
 ) -> Counts
-    requires { Rowed n starts.now columns.now weights.now
-        × Fits n sources.now (solve_lent estimate.old residual.old degrees.old priorities.old nodes.old queued.old visited.old) × Sound settings }
-    ensures { Settles push_forward (given_rows solving n starts.now columns.now weights.now
-        (solve_lent estimate.old residual.old degrees.old priorities.old nodes.old queued.old visited.old))
-        settings (watch_in watch) sources.now
-        (outcome_of (done_counts result) (solve_lent estimate.new residual.new degrees.new priorities.new nodes.new queued.new visited.new)) }
+    requires { Rowed rows.nodes rows.starts.now rows.columns.now rows.weights.now
+        × Fits rows.nodes sources.now (lent_in vectors.old degrees.old workspace.old) × Sound settings }
+    ensures same_vectors { SameVectors vectors.old vectors.new }
+    ensures same_workspace { SameWorkspace workspace.old workspace.new }
+    ensures settles { Settles push_forward (given_rows_in solving rows.entry (lent_in vectors.old degrees.old workspace.old))
+        settings (watch_in watch) sources.now (outcome_of (done_counts result) (lent_in vectors.new degrees.new workspace.new)) }
 {
-    graph::sum_rows(starts, weights, degrees);
-    let counts = calls::solve_settled(
-        settings, false, watch, sources, starts, columns, columns, weights, weights, degrees,
-        degrees, estimate, residual, priorities, nodes, queued, visited,
-    );
+    graph::sum_rows(rows.starts, rows.weights, degrees);
+    let graph = Graph {
+        backward: false,
+        starts: rows.starts,
+        columns: rows.columns,
+        reverse_columns: rows.columns,
+        weights: rows.weights,
+        reverse_weights: rows.weights,
+        degrees,
+        out_degrees: degrees,
+    };
+    let counts = calls::solve_settled(settings, watch, sources, graph, vectors, workspace);
     degrees.fill(0.0);
     counts
 }

@@ -1,10 +1,12 @@
 -- Inner: no public promise cites it.
 -- What the functions of `job_answer` ask of what is lent to them, and what they promise of the text. Assumes nothing.
 use Rattle.std.specs.Prelude.{ℕ, ◌+◌, ◌≤◌, List, ◌++◌, ◌≡◌, length, Float}
+use Rattle.refusals.specs.declared.Settings.{Settings}
 use Rattle.calls.specs.declared.Solved.{Solved}
+use Rattle.calls.specs.declared.lent.Links.{Links}
 use Rattle.calls.specs.Lent.{words, SolveLent}
 use Rattle.job_text.specs.Text.{done_line, node_lines}
-use Rattle.job_answer.specs.Printed.{Job, refusal, refused_or, Prints, Writes}
+use Rattle.job_answer.specs.Printed.{Job, job_of, refusal, refused_or, Prints, Writes}
 
 -- there is room for the text of any job
 abbrev pub Roomy : List ℕ → Type 0
@@ -30,6 +32,10 @@ pub record SolveLong (n : ℕ) (b : SolveLent) : Type 0 where
   pub nodes_long : length b.nodes ≡ n
   pub queued_long : length b.queued ≡ words n
   pub visited_long : length b.visited ≡ words n
+
+-- a job with a list of links
+abbrev pub job_with : Links → List ℕ → Settings → Job
+job_with l sources s = job_of l.nodes l.from.now l.to.now l.weight.now sources s
 
 -- the text of an answer and two vectors
 abbrev pub answer_text : Solved → List Float → List Float → List ℕ

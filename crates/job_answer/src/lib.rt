@@ -2,14 +2,16 @@
 #![tactic(auto)]
 
 ghost use Rattle.std.specs.Prelude.{true, ◌≡◌, ◌≤◌, length};
-ghost use Rattle.calls.specs.Lent.{solved_for, solve_lent};
+ghost use Rattle.calls.specs.Lent.{solved_for};
+ghost use Rattle.calls.specs.Slices.{lent_in};
 ghost use Rattle.io.specs.Counts.{IsPrefixLen};
 ghost use Rattle.job_fields.specs.Shape.{links_in, sources_in, shaped};
 ghost use Rattle.job_text.specs.Text.{Grown};
-ghost use Rattle.job_answer.specs.Printed.{settings_in, job_of, job_in, prints, Writes};
-ghost use Rattle.job_answer.specs.Promises.{Roomy, ListsLong, RowsLong, SolveLong, answer_text, writes};
+ghost use Rattle.job_answer.specs.Printed.{settings_in, job_in, prints, Writes};
+ghost use Rattle.job_answer.specs.Promises.{Roomy, ListsLong, RowsLong, SolveLong, job_with, answer_text, writes};
 
 use calls::Summary;
+use calls::lent::{Links, RowBuffers, Vectors, Workspace};
 use refusals::Settings;
 use refusals::refusal::Refusal;
 
@@ -31,14 +33,9 @@ fn settings_in(bytes: &[u8]) -> Settings
 }
 
 // Writes what a solve answered and left in its two vectors.
-fn tell(
-    answer: Result<Summary, Refusal>,
-    estimate: &[f64],
-    residual: &[f64],
-    text: &mut [u8],
-) -> usize
-    requires { (length estimate.now ≤ 256) × (length residual.now ≡ length estimate.now) × Roomy text.old }
-    ensures { Grown 0 (answer_text (solved_for answer) estimate.now residual.now) text.old result text.new }
+fn tell(answer: Result<Summary, Refusal>, vectors: &Vectors<'_>, text: &mut [u8]) -> usize
+    requires { (length vectors.now.estimate.now ≤ 256) × (length vectors.now.residual.now ≡ length vectors.now.estimate.now) × Roomy text.old }
+    ensures { Grown 0 (answer_text (solved_for answer) vectors.now.estimate.now vectors.now.residual.now) text.old result text.new }
 {
     match answer {
         Ok(solve) => {
@@ -49,7 +46,7 @@ fn tell(
                 solve.nodes_visited,
                 solve.residual_norm,
             );
-            job_text::append_nodes(text, next, estimate, residual)
+            job_text::append_nodes(text, next, vectors.estimate, vectors.residual)
         }
         Err(refusal) => job_text::append_refused(text, 0, refusal.into()),
     }
@@ -57,54 +54,39 @@ fn tell(
 
 // Solves, and writes the text.
 fn solve_and_tell(
-    n: u32,
-    from: &[u32],
-    to: &[u32],
-    weight: &[f64],
+    links: Links<'_>,
     sources: &[u32],
     settings: Settings,
-    estimate: &mut [f64],
-    residual: &mut [f64],
-    starts: &mut [u32],
-    columns: &mut [u32],
-    weights: &mut [f64],
+    vectors: &mut Vectors<'_>,
+    made: &mut RowBuffers<'_>,
     degrees: &mut [f64],
-    priorities: &mut [f64],
-    nodes: &mut [u32],
-    queued: &mut [u64],
-    visited: &mut [u64],
+    workspace: &mut Workspace<'_>,
     text: &mut [u8],
 ) -> usize
-    requires n_bound { (n ≤ 256) × ListsLong (length from.now) to.now weight.now × Roomy text.old }
-    requires rows_long { RowsLong n (length from.now) starts.old columns.old weights.old }
-    requires solve_long { SolveLong n (solve_lent estimate.old residual.old degrees.old priorities.old nodes.old queued.old visited.old) }
-    ensures { writes (job_of n from.now to.now weight.now sources.now settings) text.old result text.new }
+    requires n_bound { (links.nodes ≤ 256) × ListsLong (length links.from.now) links.to.now links.weight.now × Roomy text.old }
+    requires rows_long { RowsLong links.nodes (length links.from.now) made.old.starts.now made.old.columns.now made.old.weights.now }
+    requires solve_long { SolveLong links.nodes (lent_in vectors.old degrees.old workspace.old) }
+    ensures { writes (job_with links.entry sources.now settings) text.old result text.new }
 {
     let answer = solve_multi_source::links::solve_multi_source_links(
-        n, from, to, weight, sources, settings, estimate, residual, starts, columns, weights,
-        degrees, priorities, nodes, queued, visited,
+        links, sources, settings, vectors, made, degrees, workspace,
     );
-    tell(answer, estimate, residual, text)
+    tell(answer, vectors, text)
 }
 
 // Lends the vectors, the degrees, the queue and the marks.
 fn solve_lists(
-    n: u32,
-    from: &[u32],
-    to: &[u32],
-    weight: &[f64],
+    links: Links<'_>,
     sources: &[u32],
     settings: Settings,
-    starts: &mut [u32],
-    columns: &mut [u32],
-    weights: &mut [f64],
+    made: &mut RowBuffers<'_>,
     text: &mut [u8],
 ) -> usize
-    requires n_bound { (n ≤ 256) × ListsLong (length from.now) to.now weight.now × Roomy text.old }
-    requires rows_long { RowsLong n (length from.now) starts.old columns.old weights.old }
-    ensures { writes (job_of n from.now to.now weight.now sources.now settings) text.old result text.new }
+    requires n_bound { (links.nodes ≤ 256) × ListsLong (length links.from.now) links.to.now links.weight.now × Roomy text.old }
+    requires rows_long { RowsLong links.nodes (length links.from.now) made.old.starts.now made.old.columns.now made.old.weights.now }
+    ensures { writes (job_with links.entry sources.now settings) text.old result text.new }
 {
-    let k = n as usize;
+    let k = links.nodes as usize;
     let w = (k + 63) / 64;
     let mut estimate = [0.0f64; 256];
     let mut residual = [0.0f64; 256];
@@ -113,58 +95,45 @@ fn solve_lists(
     let mut nodes = [0u32; 256];
     let mut queued = [0u64; 4];
     let mut visited = [0u64; 4];
+    let mut vectors = Vectors {
+        estimate: &mut estimate[..k],
+        residual: &mut residual[..k],
+    };
+    let mut workspace = Workspace {
+        priorities: &mut priorities[..k],
+        nodes: &mut nodes[..k],
+        queued: &mut queued[..w],
+        visited: &mut visited[..w],
+    };
     solve_and_tell(
-        n,
-        from,
-        to,
-        weight,
+        links,
         sources,
         settings,
-        &mut estimate[..k],
-        &mut residual[..k],
-        starts,
-        columns,
-        weights,
+        &mut vectors,
+        made,
         &mut degrees[..k],
-        &mut priorities[..k],
-        &mut nodes[..k],
-        &mut queued[..w],
-        &mut visited[..w],
+        &mut workspace,
         text,
     )
 }
 
 // Lends the buffers for rows.
-fn solve_links(
-    n: u32,
-    from: &[u32],
-    to: &[u32],
-    weight: &[f64],
-    sources: &[u32],
-    settings: Settings,
-    text: &mut [u8],
-) -> usize
-    requires n_bound { (n ≤ 256) × ListsLong (length from.now) to.now weight.now × Roomy text.old }
-    requires from_len_bound { length from.now ≤ 1024 }
-    ensures { writes (job_of n from.now to.now weight.now sources.now settings) text.old result text.new }
+fn solve_links(links: Links<'_>, sources: &[u32], settings: Settings, text: &mut [u8]) -> usize
+    requires n_bound { (links.nodes ≤ 256) × ListsLong (length links.from.now) links.to.now links.weight.now × Roomy text.old }
+    requires from_len_bound { length links.from.now ≤ 1024 }
+    ensures { writes (job_with links.entry sources.now settings) text.old result text.new }
 {
-    let k = n as usize;
-    let m = from.len();
+    let k = links.nodes as usize;
+    let m = links.from.len();
     let mut starts = [0u32; 257];
     let mut columns = [0u32; 1024];
     let mut weights = [0.0f64; 1024];
-    solve_lists(
-        n,
-        from,
-        to,
-        weight,
-        sources,
-        settings,
-        &mut starts[..k + 1],
-        &mut columns[..m],
-        &mut weights[..m],
-        text,
-    )
+    let mut made = RowBuffers {
+        starts: &mut starts[..k + 1],
+        columns: &mut columns[..m],
+        weights: &mut weights[..m],
+    };
+    solve_lists(links, sources, settings, &mut made, text)
 }
 
 // Reads the lists, and solves.
@@ -184,15 +153,13 @@ fn read_and_solve(
     job_fields::read_fields(bytes, 60, 16, to);
     job_fields::read_fields(bytes, 64, 16, weight);
     job_fields::read_fields(bytes, 56 + 16 * from.len(), 4, sources);
-    solve_links(
-        job_fields::word(bytes, 0),
+    let links = Links {
+        nodes: job_fields::word(bytes, 0),
         from,
         to,
         weight,
-        sources,
-        settings_in(bytes),
-        text,
-    )
+    };
+    solve_links(links, sources, settings_in(bytes), text)
 }
 
 // Lends the lists of a job that has its shape.

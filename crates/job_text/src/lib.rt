@@ -25,8 +25,8 @@ pub fn append_decimal(text: &mut [u8], at: usize, n: u64) -> usize
     append(text, at, &digits[..k])
 }
 
-// The ASCII code of a hex digit. It is ours, and not `io::hex`, since the must-fail edit `capital_hex` has to change a
-// digit here.
+// The ASCII code of a hex digit. It is ours, and not `io::hex`, since the must-fail edit `capital_hex`, which stays, changes
+// a digit here.
 fn hex_digit(d: u64) -> u8
     requires { d < 16 }
     ensures { result ≡ hex_digit_ascii d }
@@ -55,7 +55,7 @@ pub fn append_bits(text: &mut [u8], at: usize, x: f64) -> usize
     append(text, at, &digits)
 }
 
-// The line of a refusal.
+// The line of a refusal. It takes the number, as it is written: of the named refusals there are fewer.
 pub fn append_refused(text: &mut [u8], at: usize, number: u32) -> usize
     requires { at + 64 ≤ length text.old }
     ensures { Grown at (refused_line number) text.old result text.new }

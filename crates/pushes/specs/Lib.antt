@@ -1,4 +1,5 @@
 -- The definitions that the contracts of `pushes` cite, and those of `solver`.
+pub mod Slices
 pub mod States
 pub mod Buffers
 pub mod Meant

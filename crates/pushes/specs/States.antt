@@ -1,12 +1,12 @@
 -- Inner: no public promise cites it.
 -- What the buffers of a solve stand for: the state of the rules. Assumes nothing.
-use Rattle.std.specs.Prelude.{ℕ, ◌≤◌, Bool, false, List, ◌≡◌, length, Float}
-use Rattle.std.specs.Borrow.{MutBor}
+use Rattle.std.specs.Prelude.{ℕ, ◌≤◌, Bool, false, List, ◌≡◌, Float}
 use Rattle.numbers.specs.Tables.{tabulate}
 use Rattle.marks.specs.Marks.{marked}
 use Rattle.queue.specs.Heap.{waiting}
 use Rattle.queue.specs.declared.WorkQueue.{WorkQueue}
 use Rattle.rules.specs.Rules.{State}
+use Rattle.pushes.specs.Slices.{SameSlice}
 use Rattle.pushes.specs.declared.Frontier.{Frontier}
 use Rattle.pushes.specs.declared.Tally.{Tally}
 
@@ -97,10 +97,6 @@ progress_in f t = progress f.queue t.pushes
 
 abbrev pub holding_in : Frontier → Tally → Holding
 holding_in f t = holding (progress_in f t) t.estimate.now f.residual.now f.priorities.now f.nodes.now f.queued.now t.visited.now
-
--- a field that is a slice still is the same one, of the same length
-abbrev pub SameSlice : {A : Type 0} → MutBor (List A) → MutBor (List A) → Type 0
-SameSlice s s' = (s'.ghost_name ≡ s.ghost_name) × (length s'.now ≡ length s.now)
 
 -- those of the frontier are
 pub record SameFrontier (f f' : Frontier) : Type 0 where

@@ -73,7 +73,7 @@ pub fn offer_node(v: u32, degrees: &[f64], frontier: &mut Frontier<'_>)
     ensures residual_stays { frontier.new.residual.now ≡ frontier.old.residual.now }
     ensures moved { Moved (Weighs degrees.now v) (λ way. offer way v) (length degrees.now) (pending_in frontier.old) (pending_in frontier.new) }
 {
-    // Of a field that is lent as it is to be read, the proof would know the length alone afterwards.
+    // Lent anew first: if the field itself were lent to be read, the proof would know only its length afterwards.
     let queued = &mut *frontier.queued;
     if queue::waits(queued, v) {
         return;

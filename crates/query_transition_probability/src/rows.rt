@@ -1,64 +1,45 @@
 // The score of the source in a backward solve from one target, of rows.
 ghost use Rattle.std.specs.Prelude.{◌≡◌};
 ghost use Rattle.refusals.specs.Calls.{outcome_of};
-ghost use Rattle.calls.specs.Lent.{solve_lent, scored_for};
-ghost use Rattle.calls.specs.Outcomes.{given_rows};
-ghost use Rattle.backward_push.specs.Lent.{back_lent, reversing};
+ghost use Rattle.calls.specs.Lent.{scored_for};
+ghost use Rattle.calls.specs.Slices.{given_rows_in, SameVectors, SameWorkspace};
+ghost use Rattle.backward_push.specs.Lent.{reversing};
+ghost use Rattle.backward_push.specs.Slices.{back_lent_in, SameReverseBuffers};
 ghost use Rattle.backward_push.specs.Outcomes.{query_transition_probability};
 
+use backward_push::reversed::ReverseBuffers;
+use calls::lent::{Rows, Vectors, Workspace};
 use refusals::Settings;
 use refusals::refusal::Refusal;
 
-pub fn query_transition_probability_rows<'a>(
-    n: u32,
-    starts: &[u32],
-    columns: &'a [u32],
-    weights: &'a [f64],
+pub fn query_transition_probability_rows(
+    rows: Rows<'_>,
     source: u32,
     target: u32,
     settings: Settings,
-    estimate: &mut [f64],
-    residual: &mut [f64],
-    reverse_starts: &mut [u32],
-    reverse_columns: &mut [u32],
-    reverse_weights: &mut [f64],
-    in_degrees: &mut [f64],
-    out_degrees: &mut [f64],
-    priorities: &mut [f64],
-    nodes: &mut [u32],
-    queued: &mut [u64],
-    visited: &mut [u64],
+    vectors: &mut Vectors<'_>,
+    reverse: &mut ReverseBuffers<'_>,
+    workspace: &mut Workspace<'_>,
 ) -> Result<f64, Refusal>
-    ensures { outcome_of (scored_for result) (back_lent reverse_starts.new reverse_columns.new reverse_weights.new out_degrees.new
-        (solve_lent estimate.new residual.new in_degrees.new priorities.new nodes.new queued.new visited.new))
-        ≡ query_transition_probability (given_rows reversing n starts.now columns.now weights.now
-        (back_lent reverse_starts.old reverse_columns.old reverse_weights.old out_degrees.old
-        (solve_lent estimate.old residual.old in_degrees.old priorities.old nodes.old queued.old visited.old)))
+    ensures same_vectors { SameVectors vectors.old vectors.new }
+    ensures same_reverse { SameReverseBuffers reverse.old reverse.new }
+    ensures same_workspace { SameWorkspace workspace.old workspace.new }
+    ensures outcome { outcome_of (scored_for result) (back_lent_in reverse.new vectors.new workspace.new)
+        ≡ query_transition_probability (given_rows_in reversing rows.entry (back_lent_in reverse.old vectors.old workspace.old))
         source target settings }
 {
     let one = [target];
     let counts = checked_backward_rows::checked_rows(
-        n,
-        starts,
-        columns,
-        weights,
+        rows,
         &one,
         false,
         0,
         None,
         settings,
         Ok(()),
-        estimate,
-        residual,
-        reverse_starts,
-        reverse_columns,
-        reverse_weights,
-        in_degrees,
-        out_degrees,
-        priorities,
-        nodes,
-        queued,
-        visited,
+        vectors,
+        reverse,
+        workspace,
     );
-    calls::answered(counts, estimate, source)
+    calls::answered(counts, vectors, source)
 }

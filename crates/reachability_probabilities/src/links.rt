@@ -2,71 +2,49 @@
 ghost use Rattle.std.specs.Prelude.{◌≡◌};
 ghost use Rattle.refusals.specs.Answered.{number_in};
 ghost use Rattle.refusals.specs.Calls.{outcome_of};
-ghost use Rattle.calls.specs.Lent.{solve_lent, links_lent};
-ghost use Rattle.calls.specs.Outcomes.{given_links};
-ghost use Rattle.backward_push.specs.Lent.{back_lent, reach_lent, reaching};
+ghost use Rattle.calls.specs.Slices.{rows_lent_in, given_links_in, SameRowBuffers, SameVectors, SameWorkspace};
+ghost use Rattle.backward_push.specs.Lent.{reach_lent, reaching};
+ghost use Rattle.backward_push.specs.Slices.{back_lent_in, SameReverseBuffers};
 ghost use Rattle.backward_push.specs.Outcomes.{reachability_probabilities};
 
+use backward_push::reversed::ReverseBuffers;
+use calls::lent;
+use calls::lent::{Links, RowBuffers, Vectors, Workspace};
 use refusals::Settings;
 use refusals::refusal::Refusal;
 
 pub fn reachability_probabilities_links(
-    n: u32,
-    from: &[u32],
-    to: &[u32],
-    weight: &[f64],
+    links: Links<'_>,
     target: u32,
     settings: Settings,
-    estimate: &mut [f64],
-    residual: &mut [f64],
+    vectors: &mut Vectors<'_>,
     solution: &mut [f64],
-    starts: &mut [u32],
-    columns: &mut [u32],
-    weights: &mut [f64],
-    reverse_starts: &mut [u32],
-    reverse_columns: &mut [u32],
-    reverse_weights: &mut [f64],
-    in_degrees: &mut [f64],
-    out_degrees: &mut [f64],
-    priorities: &mut [f64],
-    nodes: &mut [u32],
-    queued: &mut [u64],
-    visited: &mut [u64],
+    made: &mut RowBuffers<'_>,
+    reverse: &mut ReverseBuffers<'_>,
+    workspace: &mut Workspace<'_>,
 ) -> Result<(), Refusal>
-    ensures { outcome_of (number_in result) (links_lent starts.new columns.new weights.new (reach_lent solution.new (back_lent reverse_starts.new reverse_columns.new reverse_weights.new out_degrees.new
-        (solve_lent estimate.new residual.new in_degrees.new priorities.new nodes.new queued.new visited.new))))
-        ≡ reachability_probabilities (given_links reaching n from.now to.now weight.now
-        (links_lent starts.old columns.old weights.old (reach_lent solution.old (back_lent reverse_starts.old reverse_columns.old reverse_weights.old out_degrees.old
-        (solve_lent estimate.old residual.old in_degrees.old priorities.old nodes.old queued.old visited.old)))))
+    ensures same_vectors { SameVectors vectors.old vectors.new }
+    ensures same_rows { SameRowBuffers made.old made.new }
+    ensures same_reverse { SameReverseBuffers reverse.old reverse.new }
+    ensures same_workspace { SameWorkspace workspace.old workspace.new }
+    ensures outcome { outcome_of (number_in result) (rows_lent_in made.new (reach_lent solution.new (back_lent_in reverse.new vectors.new workspace.new)))
+        ≡ reachability_probabilities (given_links_in reaching links.entry (rows_lent_in made.old (reach_lent solution.old (back_lent_in reverse.old vectors.old workspace.old))))
         target settings }
 {
     let one = [target];
     checked_backward_links::checked_links(
-        n,
-        from,
-        to,
-        weight,
+        links,
         &one,
-        solution.len() != n as usize,
+        solution.len() != links.nodes as usize,
         0,
         None,
         settings,
         Ok(()),
-        estimate,
-        residual,
-        starts,
-        columns,
-        weights,
-        reverse_starts,
-        reverse_columns,
-        reverse_weights,
-        in_degrees,
-        out_degrees,
-        priorities,
-        nodes,
-        queued,
-        visited,
+        vectors,
+        made,
+        reverse,
+        workspace,
     )?;
-    calls::extrapolate(estimate, residual, settings.alpha, solution);
+    calls::extrapolate(lent::read(vectors), settings.alpha, solution);
     Ok(())
 }

@@ -2,65 +2,46 @@
 ghost use Rattle.std.specs.Prelude.{◌≡◌};
 ghost use Rattle.refusals.specs.Answered.{number_in};
 ghost use Rattle.refusals.specs.Calls.{outcome_of};
-ghost use Rattle.calls.specs.Lent.{solve_lent};
-ghost use Rattle.calls.specs.Outcomes.{given_rows};
-ghost use Rattle.backward_push.specs.Lent.{back_lent, reach_lent, reaching};
+ghost use Rattle.calls.specs.Slices.{given_rows_in, SameVectors, SameWorkspace};
+ghost use Rattle.backward_push.specs.Lent.{reach_lent, reaching};
+ghost use Rattle.backward_push.specs.Slices.{back_lent_in, SameReverseBuffers};
 ghost use Rattle.backward_push.specs.Outcomes.{reachability_probabilities};
 
+use backward_push::reversed::ReverseBuffers;
+use calls::lent;
+use calls::lent::{Rows, Vectors, Workspace};
 use refusals::Settings;
 use refusals::refusal::Refusal;
 
-pub fn reachability_probabilities_rows<'a>(
-    n: u32,
-    starts: &[u32],
-    columns: &'a [u32],
-    weights: &'a [f64],
+pub fn reachability_probabilities_rows(
+    rows: Rows<'_>,
     target: u32,
     settings: Settings,
-    estimate: &mut [f64],
-    residual: &mut [f64],
+    vectors: &mut Vectors<'_>,
     solution: &mut [f64],
-    reverse_starts: &mut [u32],
-    reverse_columns: &mut [u32],
-    reverse_weights: &mut [f64],
-    in_degrees: &mut [f64],
-    out_degrees: &mut [f64],
-    priorities: &mut [f64],
-    nodes: &mut [u32],
-    queued: &mut [u64],
-    visited: &mut [u64],
+    reverse: &mut ReverseBuffers<'_>,
+    workspace: &mut Workspace<'_>,
 ) -> Result<(), Refusal>
-    ensures { outcome_of (number_in result) (reach_lent solution.new (back_lent reverse_starts.new reverse_columns.new reverse_weights.new out_degrees.new
-        (solve_lent estimate.new residual.new in_degrees.new priorities.new nodes.new queued.new visited.new)))
-        ≡ reachability_probabilities (given_rows reaching n starts.now columns.now weights.now
-        (reach_lent solution.old (back_lent reverse_starts.old reverse_columns.old reverse_weights.old out_degrees.old
-        (solve_lent estimate.old residual.old in_degrees.old priorities.old nodes.old queued.old visited.old))))
+    ensures same_vectors { SameVectors vectors.old vectors.new }
+    ensures same_reverse { SameReverseBuffers reverse.old reverse.new }
+    ensures same_workspace { SameWorkspace workspace.old workspace.new }
+    ensures outcome { outcome_of (number_in result) (reach_lent solution.new (back_lent_in reverse.new vectors.new workspace.new))
+        ≡ reachability_probabilities (given_rows_in reaching rows.entry (reach_lent solution.old (back_lent_in reverse.old vectors.old workspace.old)))
         target settings }
 {
     let one = [target];
     checked_backward_rows::checked_rows(
-        n,
-        starts,
-        columns,
-        weights,
+        rows,
         &one,
-        solution.len() != n as usize,
+        solution.len() != rows.nodes as usize,
         0,
         None,
         settings,
         Ok(()),
-        estimate,
-        residual,
-        reverse_starts,
-        reverse_columns,
-        reverse_weights,
-        in_degrees,
-        out_degrees,
-        priorities,
-        nodes,
-        queued,
-        visited,
+        vectors,
+        reverse,
+        workspace,
     )?;
-    calls::extrapolate(estimate, residual, settings.alpha, solution);
+    calls::extrapolate(lent::read(vectors), settings.alpha, solution);
     Ok(())
 }

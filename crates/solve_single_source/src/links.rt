@@ -1,57 +1,41 @@
 // A forward solve from one source, of a list of links.
 ghost use Rattle.refusals.specs.Calls.{outcome_of};
-ghost use Rattle.calls.specs.Lent.{solve_lent, links_lent, solving, solved_for};
-ghost use Rattle.calls.specs.Outcomes.{given_links};
+ghost use Rattle.calls.specs.Lent.{solving, solved_for};
+ghost use Rattle.calls.specs.Slices.{lent_in, rows_lent_in, given_links_in, SameRowBuffers, SameVectors, SameWorkspace};
 ghost use Rattle.forward_push.specs.Outcomes.{solve_single_source};
 
 use calls::Summary;
+use calls::lent::{Links, RowBuffers, Vectors, Workspace};
 use refusals::Settings;
 use refusals::refusal::Refusal;
 
 pub fn solve_single_source_links(
-    n: u32,
-    from: &[u32],
-    to: &[u32],
-    weight: &[f64],
+    links: Links<'_>,
     source: u32,
     settings: Settings,
-    estimate: &mut [f64],
-    residual: &mut [f64],
-    starts: &mut [u32],
-    columns: &mut [u32],
-    weights: &mut [f64],
+    vectors: &mut Vectors<'_>,
+    made: &mut RowBuffers<'_>,
     degrees: &mut [f64],
-    priorities: &mut [f64],
-    nodes: &mut [u32],
-    queued: &mut [u64],
-    visited: &mut [u64],
+    workspace: &mut Workspace<'_>,
 ) -> Result<Summary, Refusal>
-    ensures { solve_single_source (given_links solving n from.now to.now weight.now (links_lent starts.old columns.old weights.old
-        (solve_lent estimate.old residual.old degrees.old priorities.old nodes.old queued.old visited.old)))
-        source settings (outcome_of (solved_for result) (links_lent starts.new columns.new weights.new
-        (solve_lent estimate.new residual.new degrees.new priorities.new nodes.new queued.new visited.new))) }
+    ensures same_vectors { SameVectors vectors.old vectors.new }
+    ensures same_rows { SameRowBuffers made.old made.new }
+    ensures same_workspace { SameWorkspace workspace.old workspace.new }
+    ensures outcome { solve_single_source (given_links_in solving links.entry (rows_lent_in made.old (lent_in vectors.old degrees.old workspace.old)))
+        source settings (outcome_of (solved_for result) (rows_lent_in made.new (lent_in vectors.new degrees.new workspace.new))) }
 {
     let one = [source];
     let counts = checked_forward_links::checked_links(
-        n,
-        from,
-        to,
-        weight,
+        links,
         &one,
         0,
         None,
         settings,
         Ok(()),
-        estimate,
-        residual,
-        starts,
-        columns,
-        weights,
+        vectors,
+        made,
         degrees,
-        priorities,
-        nodes,
-        queued,
-        visited,
+        workspace,
     );
-    calls::measured(counts, residual)
+    calls::measured(counts, vectors)
 }

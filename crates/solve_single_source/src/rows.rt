@@ -1,50 +1,38 @@
 // A forward solve from one source, of rows.
 ghost use Rattle.refusals.specs.Calls.{outcome_of};
-ghost use Rattle.calls.specs.Lent.{solve_lent, solving, solved_for};
-ghost use Rattle.calls.specs.Outcomes.{given_rows};
+ghost use Rattle.calls.specs.Lent.{solving, solved_for};
+ghost use Rattle.calls.specs.Slices.{lent_in, given_rows_in, SameVectors, SameWorkspace};
 ghost use Rattle.forward_push.specs.Outcomes.{solve_single_source};
 
 use calls::Summary;
+use calls::lent::{Rows, Vectors, Workspace};
 use refusals::Settings;
 use refusals::refusal::Refusal;
 
-pub fn solve_single_source_rows<'a>(
-    n: u32,
-    starts: &[u32],
-    columns: &'a [u32],
-    weights: &'a [f64],
+pub fn solve_single_source_rows(
+    rows: Rows<'_>,
     source: u32,
     settings: Settings,
-    estimate: &mut [f64],
-    residual: &mut [f64],
+    vectors: &mut Vectors<'_>,
     degrees: &mut [f64],
-    priorities: &mut [f64],
-    nodes: &mut [u32],
-    queued: &mut [u64],
-    visited: &mut [u64],
+    workspace: &mut Workspace<'_>,
 ) -> Result<Summary, Refusal>
-    ensures { solve_single_source (given_rows solving n starts.now columns.now weights.now
-        (solve_lent estimate.old residual.old degrees.old priorities.old nodes.old queued.old visited.old))
-        source settings (outcome_of (solved_for result) (solve_lent estimate.new residual.new degrees.new priorities.new nodes.new queued.new visited.new)) }
+    ensures same_vectors { SameVectors vectors.old vectors.new }
+    ensures same_workspace { SameWorkspace workspace.old workspace.new }
+    ensures outcome { solve_single_source (given_rows_in solving rows.entry (lent_in vectors.old degrees.old workspace.old))
+        source settings (outcome_of (solved_for result) (lent_in vectors.new degrees.new workspace.new)) }
 {
     let one = [source];
     let counts = checked_forward_rows::checked_rows(
-        n,
-        starts,
-        columns,
-        weights,
+        rows,
         &one,
         0,
         None,
         settings,
         Ok(()),
-        estimate,
-        residual,
+        vectors,
         degrees,
-        priorities,
-        nodes,
-        queued,
-        visited,
+        workspace,
     );
-    calls::measured(counts, residual)
+    calls::measured(counts, vectors)
 }

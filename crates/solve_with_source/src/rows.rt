@@ -1,49 +1,38 @@
 // A backward solve from one target that stops early, where the estimate of the source is precise enough, of rows.
 ghost use Rattle.refusals.specs.Calls.{outcome_of};
-ghost use Rattle.calls.specs.Lent.{solve_lent, solved_for};
-ghost use Rattle.calls.specs.Outcomes.{given_rows};
-ghost use Rattle.backward_push.specs.Lent.{back_lent, reversing};
+ghost use Rattle.calls.specs.Lent.{solved_for};
+ghost use Rattle.calls.specs.Slices.{given_rows_in, SameVectors, SameWorkspace};
+ghost use Rattle.backward_push.specs.Lent.{reversing};
+ghost use Rattle.backward_push.specs.Slices.{back_lent_in, SameReverseBuffers};
 ghost use Rattle.backward_push.specs.Outcomes.{solve_with_source};
 
+use backward_push::reversed::ReverseBuffers;
 use calls::Summary;
+use calls::lent::{Rows, Vectors, Workspace};
 use refusals::Settings;
 use refusals::refusal::Refusal;
 use watching::Watched;
 
-pub fn solve_with_source_rows<'a>(
-    n: u32,
-    starts: &[u32],
-    columns: &'a [u32],
-    weights: &'a [f64],
+pub fn solve_with_source_rows(
+    rows: Rows<'_>,
     source: u32,
     target: u32,
     source_precision: f64,
     settings: Settings,
-    estimate: &mut [f64],
-    residual: &mut [f64],
-    reverse_starts: &mut [u32],
-    reverse_columns: &mut [u32],
-    reverse_weights: &mut [f64],
-    in_degrees: &mut [f64],
-    out_degrees: &mut [f64],
-    priorities: &mut [f64],
-    nodes: &mut [u32],
-    queued: &mut [u64],
-    visited: &mut [u64],
+    vectors: &mut Vectors<'_>,
+    reverse: &mut ReverseBuffers<'_>,
+    workspace: &mut Workspace<'_>,
 ) -> Result<Summary, Refusal>
-    ensures { solve_with_source (given_rows reversing n starts.now columns.now weights.now
-        (back_lent reverse_starts.old reverse_columns.old reverse_weights.old out_degrees.old
-        (solve_lent estimate.old residual.old in_degrees.old priorities.old nodes.old queued.old visited.old)))
-        source target source_precision settings (outcome_of (solved_for result) (back_lent reverse_starts.new reverse_columns.new reverse_weights.new out_degrees.new
-        (solve_lent estimate.new residual.new in_degrees.new priorities.new nodes.new queued.new visited.new))) }
+    ensures same_vectors { SameVectors vectors.old vectors.new }
+    ensures same_reverse { SameReverseBuffers reverse.old reverse.new }
+    ensures same_workspace { SameWorkspace workspace.old workspace.new }
+    ensures outcome { solve_with_source (given_rows_in reversing rows.entry (back_lent_in reverse.old vectors.old workspace.old))
+        source target source_precision settings (outcome_of (solved_for result) (back_lent_in reverse.new vectors.new workspace.new)) }
 {
     let one = [target];
     let further = refusals::check_precision(source_precision);
     let counts = checked_backward_rows::checked_rows(
-        n,
-        starts,
-        columns,
-        weights,
+        rows,
         &one,
         false,
         0,
@@ -53,17 +42,9 @@ pub fn solve_with_source_rows<'a>(
         }),
         settings,
         further,
-        estimate,
-        residual,
-        reverse_starts,
-        reverse_columns,
-        reverse_weights,
-        in_degrees,
-        out_degrees,
-        priorities,
-        nodes,
-        queued,
-        visited,
+        vectors,
+        reverse,
+        workspace,
     );
-    calls::measured(counts, residual)
+    calls::measured(counts, vectors)
 }

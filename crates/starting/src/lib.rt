@@ -71,7 +71,7 @@ fn blank(threshold: f64, frontier: &mut Frontier<'_>, tally: &mut Tally<'_>)
     tally.estimate.fill(0.0);
     frontier.residual.fill(0.0);
     tally.visited.fill(0);
-    // Of a field that is lent as it is to be read, the proof would know the length alone afterwards.
+    // Lent anew first: if the field itself were lent to be read, the proof would know only its length afterwards.
     let priorities = &mut *frontier.priorities;
     let nodes = &mut *frontier.nodes;
     let queue = queue::start(threshold, priorities, nodes, frontier.queued);

@@ -8,7 +8,9 @@ ghost use Rattle.backward_push.specs.Lent.{back_lent};
 ghost use Rattle.bidirectional_push.specs.Lent.{both_lent, joining};
 ghost use Rattle.bidirectional_push.specs.Outcomes.{adaptive_solve};
 
+use backward_push::reversed::ReverseBuffers;
 use calls::Scored;
+use calls::lent::{Links, RowBuffers, Rows, Vectors, Workspace};
 use refusals::Settings;
 
 #[unsafe(no_mangle)]
@@ -45,31 +47,49 @@ pub extern "C" fn adaptive_solve_links(
         (solve_lent backward_estimate.old backward_residual.old in_degrees.old priorities.old nodes.old queued.old visited.old)))))
         source target forward_settings backward_settings }
 {
-    Scored::from(adaptive_solve::links::adaptive_solve_links(
-        n,
+    let links = Links {
+        nodes: n,
         from,
         to,
         weight,
-        source,
-        target,
-        forward_settings,
-        backward_settings,
-        forward_estimate,
-        forward_residual,
-        backward_estimate,
-        backward_residual,
+    };
+    let mut forward = Vectors {
+        estimate: forward_estimate,
+        residual: forward_residual,
+    };
+    let mut backward = Vectors {
+        estimate: backward_estimate,
+        residual: backward_residual,
+    };
+    let mut made = RowBuffers {
         starts,
         columns,
         weights,
-        reverse_starts,
-        reverse_columns,
-        reverse_weights,
+    };
+    let mut reverse = ReverseBuffers {
+        starts: reverse_starts,
+        columns: reverse_columns,
+        weights: reverse_weights,
         in_degrees,
         out_degrees,
+    };
+    let mut workspace = Workspace {
         priorities,
         nodes,
         queued,
         visited,
+    };
+    Scored::from(adaptive_solve::links::adaptive_solve_links(
+        links,
+        source,
+        target,
+        forward_settings,
+        backward_settings,
+        &mut forward,
+        &mut backward,
+        &mut made,
+        &mut reverse,
+        &mut workspace,
     ))
 }
 
@@ -104,27 +124,42 @@ pub extern "C" fn adaptive_solve_rows<'a>(
         (solve_lent backward_estimate.old backward_residual.old in_degrees.old priorities.old nodes.old queued.old visited.old))))
         source target forward_settings backward_settings }
 {
-    Scored::from(adaptive_solve::rows::adaptive_solve_rows(
-        n,
+    let rows = Rows {
+        nodes: n,
         starts,
         columns,
         weights,
-        source,
-        target,
-        forward_settings,
-        backward_settings,
-        forward_estimate,
-        forward_residual,
-        backward_estimate,
-        backward_residual,
-        reverse_starts,
-        reverse_columns,
-        reverse_weights,
+    };
+    let mut forward = Vectors {
+        estimate: forward_estimate,
+        residual: forward_residual,
+    };
+    let mut backward = Vectors {
+        estimate: backward_estimate,
+        residual: backward_residual,
+    };
+    let mut reverse = ReverseBuffers {
+        starts: reverse_starts,
+        columns: reverse_columns,
+        weights: reverse_weights,
         in_degrees,
         out_degrees,
+    };
+    let mut workspace = Workspace {
         priorities,
         nodes,
         queued,
         visited,
+    };
+    Scored::from(adaptive_solve::rows::adaptive_solve_rows(
+        rows,
+        source,
+        target,
+        forward_settings,
+        backward_settings,
+        &mut forward,
+        &mut backward,
+        &mut reverse,
+        &mut workspace,
     ))
 }

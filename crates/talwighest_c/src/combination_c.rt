@@ -4,6 +4,7 @@ ghost use Rattle.std.specs.Prelude.{◌≡◌};
 ghost use Rattle.combination.specs.Outcomes.{combining};
 
 use calls::Scored;
+use calls::lent::Found;
 
 #[unsafe(no_mangle)]
 pub extern "C" fn combine_with_forward(
@@ -15,11 +16,13 @@ pub extern "C" fn combine_with_forward(
 ) -> Scored
     ensures { result ≡ combining backward_estimate.now backward_residual.now forward_estimate.now forward_residual.now alpha }
 {
-    Scored::from(combination::combine_with_forward(
-        backward_estimate,
-        backward_residual,
-        forward_estimate,
-        forward_residual,
-        alpha,
-    ))
+    let backward = Found {
+        estimate: backward_estimate,
+        residual: backward_residual,
+    };
+    let forward = Found {
+        estimate: forward_estimate,
+        residual: forward_residual,
+    };
+    Scored::from(combination::combine_with_forward(backward, forward, alpha))
 }

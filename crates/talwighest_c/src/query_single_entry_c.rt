@@ -7,6 +7,7 @@ ghost use Rattle.calls.specs.Outcomes.{given_links, given_rows};
 ghost use Rattle.forward_push.specs.Outcomes.{query_single_entry};
 
 use calls::Scored;
+use calls::lent::{Links, RowBuffers, Rows, Vectors, Workspace};
 use refusals::Settings;
 
 #[unsafe(no_mangle)]
@@ -35,9 +36,33 @@ pub extern "C" fn query_single_entry_links(
         (solve_lent estimate.old residual.old degrees.old priorities.old nodes.old queued.old visited.old)))
         source target settings }
 {
+    let links = Links {
+        nodes: n,
+        from,
+        to,
+        weight,
+    };
+    let mut vectors = Vectors { estimate, residual };
+    let mut made = RowBuffers {
+        starts,
+        columns,
+        weights,
+    };
+    let mut workspace = Workspace {
+        priorities,
+        nodes,
+        queued,
+        visited,
+    };
     Scored::from(query_single_entry::links::query_single_entry_links(
-        n, from, to, weight, source, target, settings, estimate, residual, starts, columns,
-        weights, degrees, priorities, nodes, queued, visited,
+        links,
+        source,
+        target,
+        settings,
+        &mut vectors,
+        &mut made,
+        degrees,
+        &mut workspace,
     ))
 }
 
@@ -63,8 +88,26 @@ pub extern "C" fn query_single_entry_rows<'a>(
         (solve_lent estimate.old residual.old degrees.old priorities.old nodes.old queued.old visited.old))
         source target settings }
 {
+    let rows = Rows {
+        nodes: n,
+        starts,
+        columns,
+        weights,
+    };
+    let mut vectors = Vectors { estimate, residual };
+    let mut workspace = Workspace {
+        priorities,
+        nodes,
+        queued,
+        visited,
+    };
     Scored::from(query_single_entry::rows::query_single_entry_rows(
-        n, starts, columns, weights, source, target, settings, estimate, residual, degrees,
-        priorities, nodes, queued, visited,
+        rows,
+        source,
+        target,
+        settings,
+        &mut vectors,
+        degrees,
+        &mut workspace,
     ))
 }

@@ -7,7 +7,9 @@ ghost use Rattle.calls.specs.Outcomes.{given_links, given_rows};
 ghost use Rattle.backward_push.specs.Lent.{back_lent, reversing};
 ghost use Rattle.backward_push.specs.Outcomes.{query_transition_probability};
 
+use backward_push::reversed::ReverseBuffers;
 use calls::Scored;
+use calls::lent::{Links, RowBuffers, Rows, Vectors, Workspace};
 use refusals::Settings;
 
 #[unsafe(no_mangle)]
@@ -41,29 +43,41 @@ pub extern "C" fn query_transition_probability_links(
         (solve_lent estimate.old residual.old in_degrees.old priorities.old nodes.old queued.old visited.old))))
         source target settings }
 {
+    let links = Links {
+        nodes: n,
+        from,
+        to,
+        weight,
+    };
+    let mut vectors = Vectors { estimate, residual };
+    let mut made = RowBuffers {
+        starts,
+        columns,
+        weights,
+    };
+    let mut reverse = ReverseBuffers {
+        starts: reverse_starts,
+        columns: reverse_columns,
+        weights: reverse_weights,
+        in_degrees,
+        out_degrees,
+    };
+    let mut workspace = Workspace {
+        priorities,
+        nodes,
+        queued,
+        visited,
+    };
     Scored::from(
         query_transition_probability::links::query_transition_probability_links(
-            n,
-            from,
-            to,
-            weight,
+            links,
             source,
             target,
             settings,
-            estimate,
-            residual,
-            starts,
-            columns,
-            weights,
-            reverse_starts,
-            reverse_columns,
-            reverse_weights,
-            in_degrees,
-            out_degrees,
-            priorities,
-            nodes,
-            queued,
-            visited,
+            &mut vectors,
+            &mut made,
+            &mut reverse,
+            &mut workspace,
         ),
     )
 }
@@ -96,26 +110,35 @@ pub extern "C" fn query_transition_probability_rows<'a>(
         (solve_lent estimate.old residual.old in_degrees.old priorities.old nodes.old queued.old visited.old)))
         source target settings }
 {
+    let rows = Rows {
+        nodes: n,
+        starts,
+        columns,
+        weights,
+    };
+    let mut vectors = Vectors { estimate, residual };
+    let mut reverse = ReverseBuffers {
+        starts: reverse_starts,
+        columns: reverse_columns,
+        weights: reverse_weights,
+        in_degrees,
+        out_degrees,
+    };
+    let mut workspace = Workspace {
+        priorities,
+        nodes,
+        queued,
+        visited,
+    };
     Scored::from(
         query_transition_probability::rows::query_transition_probability_rows(
-            n,
-            starts,
-            columns,
-            weights,
+            rows,
             source,
             target,
             settings,
-            estimate,
-            residual,
-            reverse_starts,
-            reverse_columns,
-            reverse_weights,
-            in_degrees,
-            out_degrees,
-            priorities,
-            nodes,
-            queued,
-            visited,
+            &mut vectors,
+            &mut reverse,
+            &mut workspace,
         ),
     )
 }

@@ -8,6 +8,8 @@ ghost use Rattle.backward_push.specs.Lent.{back_lent, reach_lent, reaching};
 ghost use Rattle.backward_push.specs.Outcomes.{reachability_probabilities};
 
 use crate::number::number_for;
+use backward_push::reversed::ReverseBuffers;
+use calls::lent::{Links, RowBuffers, Rows, Vectors, Workspace};
 use refusals::Settings;
 
 #[unsafe(no_mangle)]
@@ -41,29 +43,41 @@ pub extern "C" fn reachability_probabilities_links(
         (solve_lent estimate.old residual.old in_degrees.old priorities.old nodes.old queued.old visited.old)))))
         target settings }
 {
+    let links = Links {
+        nodes: n,
+        from,
+        to,
+        weight,
+    };
+    let mut vectors = Vectors { estimate, residual };
+    let mut made = RowBuffers {
+        starts,
+        columns,
+        weights,
+    };
+    let mut reverse = ReverseBuffers {
+        starts: reverse_starts,
+        columns: reverse_columns,
+        weights: reverse_weights,
+        in_degrees,
+        out_degrees,
+    };
+    let mut workspace = Workspace {
+        priorities,
+        nodes,
+        queued,
+        visited,
+    };
     number_for(
         reachability_probabilities::links::reachability_probabilities_links(
-            n,
-            from,
-            to,
-            weight,
+            links,
             target,
             settings,
-            estimate,
-            residual,
+            &mut vectors,
             solution,
-            starts,
-            columns,
-            weights,
-            reverse_starts,
-            reverse_columns,
-            reverse_weights,
-            in_degrees,
-            out_degrees,
-            priorities,
-            nodes,
-            queued,
-            visited,
+            &mut made,
+            &mut reverse,
+            &mut workspace,
         ),
     )
 }
@@ -96,26 +110,35 @@ pub extern "C" fn reachability_probabilities_rows<'a>(
         (solve_lent estimate.old residual.old in_degrees.old priorities.old nodes.old queued.old visited.old))))
         target settings }
 {
+    let rows = Rows {
+        nodes: n,
+        starts,
+        columns,
+        weights,
+    };
+    let mut vectors = Vectors { estimate, residual };
+    let mut reverse = ReverseBuffers {
+        starts: reverse_starts,
+        columns: reverse_columns,
+        weights: reverse_weights,
+        in_degrees,
+        out_degrees,
+    };
+    let mut workspace = Workspace {
+        priorities,
+        nodes,
+        queued,
+        visited,
+    };
     number_for(
         reachability_probabilities::rows::reachability_probabilities_rows(
-            n,
-            starts,
-            columns,
-            weights,
+            rows,
             target,
             settings,
-            estimate,
-            residual,
+            &mut vectors,
             solution,
-            reverse_starts,
-            reverse_columns,
-            reverse_weights,
-            in_degrees,
-            out_degrees,
-            priorities,
-            nodes,
-            queued,
-            visited,
+            &mut reverse,
+            &mut workspace,
         ),
     )
 }

@@ -6,6 +6,7 @@ ghost use Rattle.calls.specs.Outcomes.{given_links, given_rows};
 ghost use Rattle.forward_push.specs.Outcomes.{solve_single_source};
 
 use calls::Solved;
+use calls::lent::{Links, RowBuffers, Rows, Vectors, Workspace};
 use refusals::Settings;
 
 #[unsafe(no_mangle)]
@@ -32,9 +33,32 @@ pub extern "C" fn solve_single_source_links(
         source settings (outcome_of result (links_lent starts.new columns.new weights.new
         (solve_lent estimate.new residual.new degrees.new priorities.new nodes.new queued.new visited.new))) }
 {
+    let links = Links {
+        nodes: n,
+        from,
+        to,
+        weight,
+    };
+    let mut vectors = Vectors { estimate, residual };
+    let mut made = RowBuffers {
+        starts,
+        columns,
+        weights,
+    };
+    let mut workspace = Workspace {
+        priorities,
+        nodes,
+        queued,
+        visited,
+    };
     Solved::from(solve_single_source::links::solve_single_source_links(
-        n, from, to, weight, source, settings, estimate, residual, starts, columns, weights,
-        degrees, priorities, nodes, queued, visited,
+        links,
+        source,
+        settings,
+        &mut vectors,
+        &mut made,
+        degrees,
+        &mut workspace,
     ))
 }
 
@@ -58,8 +82,25 @@ pub extern "C" fn solve_single_source_rows<'a>(
         (solve_lent estimate.old residual.old degrees.old priorities.old nodes.old queued.old visited.old))
         source settings (outcome_of result (solve_lent estimate.new residual.new degrees.new priorities.new nodes.new queued.new visited.new)) }
 {
+    let rows = Rows {
+        nodes: n,
+        starts,
+        columns,
+        weights,
+    };
+    let mut vectors = Vectors { estimate, residual };
+    let mut workspace = Workspace {
+        priorities,
+        nodes,
+        queued,
+        visited,
+    };
     Solved::from(solve_single_source::rows::solve_single_source_rows(
-        n, starts, columns, weights, source, settings, estimate, residual, degrees, priorities,
-        nodes, queued, visited,
+        rows,
+        source,
+        settings,
+        &mut vectors,
+        degrees,
+        &mut workspace,
     ))
 }

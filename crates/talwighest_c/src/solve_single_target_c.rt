@@ -6,7 +6,9 @@ ghost use Rattle.calls.specs.Outcomes.{given_links, given_rows};
 ghost use Rattle.backward_push.specs.Lent.{back_lent, reversing};
 ghost use Rattle.backward_push.specs.Outcomes.{solve_single_target};
 
+use backward_push::reversed::ReverseBuffers;
 use calls::Solved;
+use calls::lent::{Links, RowBuffers, Rows, Vectors, Workspace};
 use refusals::Settings;
 
 #[unsafe(no_mangle)]
@@ -38,27 +40,39 @@ pub extern "C" fn solve_single_target_links(
         target settings (outcome_of result (links_lent starts.new columns.new weights.new (back_lent reverse_starts.new reverse_columns.new reverse_weights.new out_degrees.new
         (solve_lent estimate.new residual.new in_degrees.new priorities.new nodes.new queued.new visited.new)))) }
 {
-    Solved::from(solve_single_target::links::solve_single_target_links(
-        n,
+    let links = Links {
+        nodes: n,
         from,
         to,
         weight,
-        target,
-        settings,
-        estimate,
-        residual,
+    };
+    let mut vectors = Vectors { estimate, residual };
+    let mut made = RowBuffers {
         starts,
         columns,
         weights,
-        reverse_starts,
-        reverse_columns,
-        reverse_weights,
+    };
+    let mut reverse = ReverseBuffers {
+        starts: reverse_starts,
+        columns: reverse_columns,
+        weights: reverse_weights,
         in_degrees,
         out_degrees,
+    };
+    let mut workspace = Workspace {
         priorities,
         nodes,
         queued,
         visited,
+    };
+    Solved::from(solve_single_target::links::solve_single_target_links(
+        links,
+        target,
+        settings,
+        &mut vectors,
+        &mut made,
+        &mut reverse,
+        &mut workspace,
     ))
 }
 
@@ -88,23 +102,32 @@ pub extern "C" fn solve_single_target_rows<'a>(
         target settings (outcome_of result (back_lent reverse_starts.new reverse_columns.new reverse_weights.new out_degrees.new
         (solve_lent estimate.new residual.new in_degrees.new priorities.new nodes.new queued.new visited.new))) }
 {
-    Solved::from(solve_single_target::rows::solve_single_target_rows(
-        n,
+    let rows = Rows {
+        nodes: n,
         starts,
         columns,
         weights,
-        target,
-        settings,
-        estimate,
-        residual,
-        reverse_starts,
-        reverse_columns,
-        reverse_weights,
+    };
+    let mut vectors = Vectors { estimate, residual };
+    let mut reverse = ReverseBuffers {
+        starts: reverse_starts,
+        columns: reverse_columns,
+        weights: reverse_weights,
         in_degrees,
         out_degrees,
+    };
+    let mut workspace = Workspace {
         priorities,
         nodes,
         queued,
         visited,
+    };
+    Solved::from(solve_single_target::rows::solve_single_target_rows(
+        rows,
+        target,
+        settings,
+        &mut vectors,
+        &mut reverse,
+        &mut workspace,
     ))
 }

@@ -6,7 +6,9 @@ ghost use Rattle.calls.specs.Outcomes.{given_links, given_rows};
 ghost use Rattle.backward_push.specs.Lent.{back_lent, reversing};
 ghost use Rattle.backward_push.specs.Outcomes.{solve_with_source};
 
+use backward_push::reversed::ReverseBuffers;
 use calls::Solved;
+use calls::lent::{Links, RowBuffers, Rows, Vectors, Workspace};
 use refusals::Settings;
 
 #[unsafe(no_mangle)]
@@ -40,29 +42,41 @@ pub extern "C" fn solve_with_source_links(
         source target source_precision settings (outcome_of result (links_lent starts.new columns.new weights.new (back_lent reverse_starts.new reverse_columns.new reverse_weights.new out_degrees.new
         (solve_lent estimate.new residual.new in_degrees.new priorities.new nodes.new queued.new visited.new)))) }
 {
-    Solved::from(solve_with_source::links::solve_with_source_links(
-        n,
+    let links = Links {
+        nodes: n,
         from,
         to,
         weight,
-        source,
-        target,
-        source_precision,
-        settings,
-        estimate,
-        residual,
+    };
+    let mut vectors = Vectors { estimate, residual };
+    let mut made = RowBuffers {
         starts,
         columns,
         weights,
-        reverse_starts,
-        reverse_columns,
-        reverse_weights,
+    };
+    let mut reverse = ReverseBuffers {
+        starts: reverse_starts,
+        columns: reverse_columns,
+        weights: reverse_weights,
         in_degrees,
         out_degrees,
+    };
+    let mut workspace = Workspace {
         priorities,
         nodes,
         queued,
         visited,
+    };
+    Solved::from(solve_with_source::links::solve_with_source_links(
+        links,
+        source,
+        target,
+        source_precision,
+        settings,
+        &mut vectors,
+        &mut made,
+        &mut reverse,
+        &mut workspace,
     ))
 }
 
@@ -94,25 +108,34 @@ pub extern "C" fn solve_with_source_rows<'a>(
         source target source_precision settings (outcome_of result (back_lent reverse_starts.new reverse_columns.new reverse_weights.new out_degrees.new
         (solve_lent estimate.new residual.new in_degrees.new priorities.new nodes.new queued.new visited.new))) }
 {
-    Solved::from(solve_with_source::rows::solve_with_source_rows(
-        n,
+    let rows = Rows {
+        nodes: n,
         starts,
         columns,
         weights,
-        source,
-        target,
-        source_precision,
-        settings,
-        estimate,
-        residual,
-        reverse_starts,
-        reverse_columns,
-        reverse_weights,
+    };
+    let mut vectors = Vectors { estimate, residual };
+    let mut reverse = ReverseBuffers {
+        starts: reverse_starts,
+        columns: reverse_columns,
+        weights: reverse_weights,
         in_degrees,
         out_degrees,
+    };
+    let mut workspace = Workspace {
         priorities,
         nodes,
         queued,
         visited,
+    };
+    Solved::from(solve_with_source::rows::solve_with_source_rows(
+        rows,
+        source,
+        target,
+        source_precision,
+        settings,
+        &mut vectors,
+        &mut reverse,
+        &mut workspace,
     ))
 }

@@ -6,6 +6,7 @@ ghost use Rattle.calls.specs.Outcomes.{given_links, given_rows};
 ghost use Rattle.forward_push.specs.Outcomes.{solve_with_target};
 
 use calls::Solved;
+use calls::lent::{Links, RowBuffers, Rows, Vectors, Workspace};
 use refusals::Settings;
 
 #[unsafe(no_mangle)]
@@ -34,25 +35,34 @@ pub extern "C" fn solve_with_target_links(
         source target target_precision settings (outcome_of result (links_lent starts.new columns.new weights.new
         (solve_lent estimate.new residual.new degrees.new priorities.new nodes.new queued.new visited.new))) }
 {
-    Solved::from(solve_with_target::links::solve_with_target_links(
-        n,
+    let links = Links {
+        nodes: n,
         from,
         to,
         weight,
-        source,
-        target,
-        target_precision,
-        settings,
-        estimate,
-        residual,
+    };
+    let mut vectors = Vectors { estimate, residual };
+    let mut made = RowBuffers {
         starts,
         columns,
         weights,
-        degrees,
+    };
+    let mut workspace = Workspace {
         priorities,
         nodes,
         queued,
         visited,
+    };
+    Solved::from(solve_with_target::links::solve_with_target_links(
+        links,
+        source,
+        target,
+        target_precision,
+        settings,
+        &mut vectors,
+        &mut made,
+        degrees,
+        &mut workspace,
     ))
 }
 
@@ -78,21 +88,27 @@ pub extern "C" fn solve_with_target_rows<'a>(
         (solve_lent estimate.old residual.old degrees.old priorities.old nodes.old queued.old visited.old))
         source target target_precision settings (outcome_of result (solve_lent estimate.new residual.new degrees.new priorities.new nodes.new queued.new visited.new)) }
 {
-    Solved::from(solve_with_target::rows::solve_with_target_rows(
-        n,
+    let rows = Rows {
+        nodes: n,
         starts,
         columns,
         weights,
-        source,
-        target,
-        target_precision,
-        settings,
-        estimate,
-        residual,
-        degrees,
+    };
+    let mut vectors = Vectors { estimate, residual };
+    let mut workspace = Workspace {
         priorities,
         nodes,
         queued,
         visited,
+    };
+    Solved::from(solve_with_target::rows::solve_with_target_rows(
+        rows,
+        source,
+        target,
+        target_precision,
+        settings,
+        &mut vectors,
+        degrees,
+        &mut workspace,
     ))
 }

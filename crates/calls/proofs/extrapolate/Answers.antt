@@ -15,14 +15,14 @@ loop-v-init c = over_none _ _
 pub loop-v-preserved : goal.loop-v-preserved
 unfolding extrapolated
 loop-v-preserved c = let s = c.loop-v in let a = c.args in
-    let h : s.v < length a.estimate.now = omega arith in
+    let h : s.v < length a.found.estimate.now = omega arith in
     rw s.invariant
-    (over_more s.v (extrapolated a.alpha (length a.estimate.now) a.estimate.now a.residual.now) a.solution.now nan _
+    (over_more s.v (extrapolated a.alpha (length a.found.estimate.now) a.found.estimate.now a.found.residual.now) a.solution.now nan _
     (rw length-tabulate h) (rw c.requires.1 h) (sym (get_or-tabulate _ _ s.v nan h)))
 
 pub returns : goal.returns
 unfolding extrapolated
 returns c = let s = c.loop-v in let a = c.args in
-    let h : length a.estimate.now ≤ s.v = omega arith in
+    let h : length a.found.estimate.now ≤ s.v = omega arith in
     s.invariant
-    ∙ over_whole s.v (extrapolated a.alpha (length a.estimate.now) a.estimate.now a.residual.now) a.solution.now (rw c.requires.1 h) (rw length-tabulate h)
+    ∙ over_whole s.v (extrapolated a.alpha (length a.found.estimate.now) a.found.estimate.now a.found.residual.now) a.solution.now (rw c.requires.1 h) (rw length-tabulate h)

@@ -6,4 +6,4 @@ use Rattle.rules.specs.Answers.{extrapolated}
 use Rattle.calls.proofs.extrapolate.Given as goal
 
 abbrev pub invariant-loop-v : goal.invariant-loop-v
-invariant-loop-v l = l.solution ≡ over l.v (extrapolated l.alpha (length l.estimate) l.estimate l.residual) l.initial.solution
+invariant-loop-v l = l.solution ≡ over l.v (extrapolated l.alpha (length l.found.estimate.now) l.found.estimate.now l.found.residual.now) l.initial.solution

@@ -21,22 +21,22 @@ pub count-ones-requires : goal.count-ones-requires
 count-ones-requires c = let f = c.requires.1 in
     few_words f.room.few f.visited_long (search rules)
 
-pub returns : goal.returns
+pub returns-clause-settled : goal.returns-clause-settled
 unfolding state_of state_in
-returns c = let a = c.args in
+returns-clause-settled c = let a = c.args in
     let f = c.requires.1 in
     let s = c.solve.new in
     let r = c.solve.ensures.leaves in let b = c.solve.ensures.same_tally in let z = c.clear.ensures in
-    let n = length a.degrees.now in
+    let w = a.workspace.now in
     record {
       counts = λ way st.
-          counts_are n _ _ _ _ _ _ (rw b.visited.1 f.room.visited_room) r.beyond
+          counts_are _ _ _ _ _ _ _ (rw b.visited.1 f.room.visited_room) r.beyond
           (c.count-ones.ensures.1 ∙ ap (λ (vs : List ℕ). how_many (64 * length vs) (marked vs)) (search rules))
           ∙ ap counted_in (r.state way st);
       estimate_is = λ way st. onto s.tally.estimate.now (search rules) (ap (λ (end : State). end.estimate) (r.state way st));
       residual_is = λ way st. onto s.frontier.residual.now (search rules) (ap (λ (end : State). end.residual) (r.state way st));
-      priorities_zero = z.priorities_zero ∙ ap (λ (k : ℕ). replicate k +0) (onto (length a.priorities.now) (search rules) f.room.wide);
-      nodes_zero = z.nodes_zero ∙ ap (λ (k : ℕ). replicate k 0) (onto (length a.nodes.now) (search rules) f.room.paired);
-      queued_zero = z.marks_zero ∙ ap (λ (k : ℕ). replicate k 0) (onto (length a.queued.now) (search rules) f.queued_long);
-      visited_zero = c.fill.ensures.after (λ _ e. e) ∙ ap (λ (k : ℕ). replicate k 0) (onto (length a.visited.now) (search rules) f.visited_long);
+      priorities_zero = z.priorities_zero ∙ ap (λ (k : ℕ). replicate k +0) (onto (length w.priorities.now) (search rules) f.room.wide);
+      nodes_zero = z.nodes_zero ∙ ap (λ (k : ℕ). replicate k 0) (onto (length w.nodes.now) (search rules) f.room.paired);
+      queued_zero = z.marks_zero ∙ ap (λ (k : ℕ). replicate k 0) (onto (length w.queued.now) (search rules) f.queued_long);
+      visited_zero = c.fill.ensures.after (λ _ e. e) ∙ ap (λ (k : ℕ). replicate k 0) (onto (length w.visited.now) (search rules) f.visited_long);
     }

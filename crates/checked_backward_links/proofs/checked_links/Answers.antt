@@ -5,31 +5,33 @@ use Rattle.refusals.specs.Refusals.{◌or◌, lengths_differ, refuse_settings}
 use Rattle.refusals.specs.Answered.{number_in}
 use Rattle.refusals.proofs.Laws.{settings_sound}
 use Rattle.refusals.proofs.Numbered.{stops, goes_on}
-use Rattle.calls.specs.Lent.{besides, solve_lent, links_lent}
+use Rattle.calls.specs.Lent.{besides}
+use Rattle.calls.specs.Slices.{rows_lent_in, given_links_in}
 use Rattle.calls.specs.Outcomes.{given_links}
 use Rattle.calls.proofs.Leaving.{call_refused_for, call_done}
 use Rattle.calls.proofs.Asked.{links_asked}
 use Rattle.calls.proofs.Fits.{fits}
 use Rattle.calls.proofs.Lengths.{failing, failing_differ, sized_behind, links_besides}
-use Rattle.backward_push.specs.Lent.{back_lent, reversing}
+use Rattle.backward_push.specs.Lent.{reversing}
+use Rattle.backward_push.specs.Slices.{back_lent_in}
 use Rattle.checked_backward_links.proofs.checked_links.Goals.{In_ok-further}
 use Rattle.checked_backward_links.proofs.checked_links.Goals as goal
 
-pub returns-in_err-check_links : goal.returns-in_err-check_links
+pub returns-in_err-check_links-clause-checks : goal.returns-in_err-check_links-clause-checks
 unfolding given_links
-returns-in_err-check_links c more e =
+returns-in_err-check_links-clause-checks c more e =
     let p = err_from_is_err_and c.from_residual.result c.from_residual.ensures.1 in
     rw (p.1, p.2) (call_refused_for _ (stops _ _ _ (c.in_err-check_links.ensures more e)))
 
-pub returns-in_err-check_settings : goal.returns-in_err-check_settings
+pub returns-in_err-check_settings-clause-checks : goal.returns-in_err-check_settings-clause-checks
 unfolding given_links
-returns-in_err-check_settings c more e =
+returns-in_err-check_settings-clause-checks c more e =
     let p = err_from_is_err_and c.from_residual-in_err-check_settings.result c.from_residual-in_err-check_settings.ensures.1 in
     rw (p.1, p.2) (call_refused_for _ (goes_on _ _ (c.in_ok-check_links.ensures more e) (stops _ _ _ c.in_err-check_settings.ensures)))
 
-pub returns-in_err-further : goal.returns-in_err-further
+pub returns-in_err-further-clause-checks : goal.returns-in_err-further-clause-checks
 unfolding given_links
-returns-in_err-further c more e =
+returns-in_err-further-clause-checks c more e =
     let p = err_from_is_err_and c.from_residual-in_err-further.result c.from_residual-in_err-further.ensures.1 in
     rw (p.1, p.2) (call_refused_for _ (goes_on _ _ (c.in_ok-check_links.ensures more e) (goes_on _ _ c.in_ok-check_settings.ensures (search rules))))
 
@@ -37,9 +39,8 @@ returns-in_err-further c more e =
 passed : (c : In_ok-further) → let a = c.args in
     (more : List (ℕ × ℕ)) → a.other ≡ lengths_differ false more
     → 0
-    ≡ (given_links (besides more reversing) a.n a.from.now a.to.now a.weight.now (links_lent a.starts.now a.columns.now a.weights.now (back_lent a.reverse_starts.now a.reverse_columns.now a.reverse_weights.now a.out_degrees.now
-    (solve_lent a.estimate.now a.residual.now a.in_degrees.now a.priorities.now a.nodes.now a.queued.now a.visited.now)))
-    ).tests a.listed or refuse_settings a.settings or number_in a.further
+    ≡ (given_links_in (besides more reversing) a.links (rows_lent_in a.made.now (back_lent_in a.reverse.now a.vectors.now a.workspace.now))).tests a.listed
+    or refuse_settings a.settings or number_in a.further
 unfolding given_links
 passed c more e = goes_on _ _ (c.in_ok-check_links.ensures more e) (goes_on _ _ c.in_ok-check_settings.ensures (search rules))
 
@@ -55,5 +56,5 @@ solve_links-requires c =
     let f = fits _ _ c.requires (record { nodes = z.nodes; links = z.links; listed = z.listed; long = l.1.1.1.1 }) in
     (q.0 _ f.room.paired, l.0, l.1.0, l.1.1.0, l.1.1.1.0, f, w.0)
 
-pub returns : goal.returns
-returns c more e = call_done (passed (goal.at.returns c).In_ok-further more e) refl (links_besides reversing more _ _ _ _ _ _ _ _ _ c.solve_links.ensures)
+pub returns-clause-checks : goal.returns-clause-checks
+returns-clause-checks c more e = call_done (passed (goal.at.returns-clause-checks c).In_ok-further more e) refl (links_besides reversing more _ _ _ _ _ _ _ _ _ c.solve_links.ensures.settles)

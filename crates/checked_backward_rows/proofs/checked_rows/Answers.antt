@@ -5,31 +5,33 @@ use Rattle.refusals.specs.Refusals.{◌or◌, lengths_differ, refuse_settings}
 use Rattle.refusals.specs.Answered.{number_in}
 use Rattle.refusals.proofs.Laws.{settings_sound}
 use Rattle.refusals.proofs.Numbered.{stops, goes_on}
-use Rattle.calls.specs.Lent.{besides, solve_lent}
+use Rattle.calls.specs.Lent.{besides}
+use Rattle.calls.specs.Slices.{given_rows_in}
 use Rattle.calls.specs.Outcomes.{given_rows}
 use Rattle.calls.proofs.Leaving.{call_refused_for, call_done}
 use Rattle.calls.proofs.Asked.{rows_asked}
 use Rattle.calls.proofs.Fits.{fits}
 use Rattle.calls.proofs.Lengths.{failing, failing_differ, sized_behind, rows_besides}
-use Rattle.backward_push.specs.Lent.{back_lent, reversing}
+use Rattle.backward_push.specs.Lent.{reversing}
+use Rattle.backward_push.specs.Slices.{back_lent_in}
 use Rattle.checked_backward_rows.proofs.checked_rows.Goals.{In_ok-further}
 use Rattle.checked_backward_rows.proofs.checked_rows.Goals as goal
 
-pub returns-in_err-check_rows : goal.returns-in_err-check_rows
+pub returns-in_err-check_rows-clause-checks : goal.returns-in_err-check_rows-clause-checks
 unfolding given_rows
-returns-in_err-check_rows c more e =
+returns-in_err-check_rows-clause-checks c more e =
     let p = err_from_is_err_and c.from_residual.result c.from_residual.ensures.1 in
     rw (p.1, p.2) (call_refused_for _ (stops _ _ _ (c.in_err-check_rows.ensures more e)))
 
-pub returns-in_err-check_settings : goal.returns-in_err-check_settings
+pub returns-in_err-check_settings-clause-checks : goal.returns-in_err-check_settings-clause-checks
 unfolding given_rows
-returns-in_err-check_settings c more e =
+returns-in_err-check_settings-clause-checks c more e =
     let p = err_from_is_err_and c.from_residual-in_err-check_settings.result c.from_residual-in_err-check_settings.ensures.1 in
     rw (p.1, p.2) (call_refused_for _ (goes_on _ _ (c.in_ok-check_rows.ensures more e) (stops _ _ _ c.in_err-check_settings.ensures)))
 
-pub returns-in_err-further : goal.returns-in_err-further
+pub returns-in_err-further-clause-checks : goal.returns-in_err-further-clause-checks
 unfolding given_rows
-returns-in_err-further c more e =
+returns-in_err-further-clause-checks c more e =
     let p = err_from_is_err_and c.from_residual-in_err-further.result c.from_residual-in_err-further.ensures.1 in
     rw (p.1, p.2) (call_refused_for _ (goes_on _ _ (c.in_ok-check_rows.ensures more e) (goes_on _ _ c.in_ok-check_settings.ensures (search rules))))
 
@@ -37,10 +39,7 @@ returns-in_err-further c more e =
 passed : (c : In_ok-further) → let a = c.args in
     (more : List (ℕ × ℕ)) → a.other ≡ lengths_differ false more
     → 0
-    ≡ (given_rows (besides more reversing) a.n a.starts.now a.columns.now a.weights.now
-    (back_lent a.reverse_starts.now a.reverse_columns.now a.reverse_weights.now a.out_degrees.now
-    (solve_lent a.estimate.now a.residual.now a.in_degrees.now a.priorities.now a.nodes.now a.queued.now a.visited.now))
-    ).tests a.listed or refuse_settings a.settings or number_in a.further
+    ≡ (given_rows_in (besides more reversing) a.rows (back_lent_in a.reverse.now a.vectors.now a.workspace.now)).tests a.listed or refuse_settings a.settings or number_in a.further
 unfolding given_rows
 passed c more e = goes_on _ _ (c.in_ok-check_rows.ensures more e) (goes_on _ _ c.in_ok-check_settings.ensures (search rules))
 
@@ -67,5 +66,5 @@ solve_rows-requires c =
       w.0,
     )
 
-pub returns : goal.returns
-returns c more e = call_done (passed (goal.at.returns c).In_ok-further more e) refl (rows_besides reversing more _ _ _ _ _ _ _ _ _ c.solve_rows.ensures)
+pub returns-clause-checks : goal.returns-clause-checks
+returns-clause-checks c more e = call_done (passed (goal.at.returns-clause-checks c).In_ok-further more e) refl (rows_besides reversing more _ _ _ _ _ _ _ _ _ c.solve_rows.ensures.settles)

@@ -5,7 +5,8 @@ use Rattle.refusals.specs.Refusals.{◌or◌, refuse_settings}
 use Rattle.refusals.specs.Answered.{number_in}
 use Rattle.refusals.proofs.Laws.{settings_sound}
 use Rattle.refusals.proofs.Numbered.{stops, goes_on}
-use Rattle.calls.specs.Lent.{solve_lent, links_lent, solving}
+use Rattle.calls.specs.Lent.{solving}
+use Rattle.calls.specs.Slices.{lent_in, rows_lent_in, given_links_in}
 use Rattle.calls.specs.Outcomes.{given_links}
 use Rattle.calls.proofs.Leaving.{call_refused_for, call_done}
 use Rattle.calls.proofs.Asked.{links_asked}
@@ -13,30 +14,28 @@ use Rattle.calls.proofs.Fits.{fits}
 use Rattle.checked_forward_links.proofs.checked_links.Goals.{In_ok-further}
 use Rattle.checked_forward_links.proofs.checked_links.Goals as goal
 
-pub returns-in_err-check_links : goal.returns-in_err-check_links
+pub returns-in_err-check_links-clause-checks : goal.returns-in_err-check_links-clause-checks
 unfolding given_links
-returns-in_err-check_links c =
+returns-in_err-check_links-clause-checks c =
     let p = err_from_is_err_and c.from_residual.result c.from_residual.ensures.1 in
     rw (p.1, p.2) (call_refused_for _ (stops _ _ _ c.in_err-check_links.ensures))
 
-pub returns-in_err-check_settings : goal.returns-in_err-check_settings
+pub returns-in_err-check_settings-clause-checks : goal.returns-in_err-check_settings-clause-checks
 unfolding given_links
-returns-in_err-check_settings c =
+returns-in_err-check_settings-clause-checks c =
     let p = err_from_is_err_and c.from_residual-in_err-check_settings.result c.from_residual-in_err-check_settings.ensures.1 in
     rw (p.1, p.2) (call_refused_for _ (goes_on _ _ c.in_ok-check_links.ensures (stops _ _ _ c.in_err-check_settings.ensures)))
 
-pub returns-in_err-further : goal.returns-in_err-further
+pub returns-in_err-further-clause-checks : goal.returns-in_err-further-clause-checks
 unfolding given_links
-returns-in_err-further c =
+returns-in_err-further-clause-checks c =
     let p = err_from_is_err_and c.from_residual-in_err-further.result c.from_residual-in_err-further.ensures.1 in
     rw (p.1, p.2) (call_refused_for _ (goes_on _ _ c.in_ok-check_links.ensures (goes_on _ _ c.in_ok-check_settings.ensures (search rules))))
 
 -- no test applies
 passed : (c : In_ok-further) → let a = c.args in
     0
-    ≡ (given_links solving a.n a.from.now a.to.now a.weight.now (links_lent a.starts.now a.columns.now a.weights.now
-    (solve_lent a.estimate.now a.residual.now a.degrees.now a.priorities.now a.nodes.now a.queued.now a.visited.now))
-    ).tests a.listed or refuse_settings a.settings or number_in a.further
+    ≡ (given_links_in solving a.links (rows_lent_in a.made.now (lent_in a.vectors.now a.degrees.now a.workspace.now))).tests a.listed or refuse_settings a.settings or number_in a.further
 unfolding given_links
 passed c = goes_on _ _ c.in_ok-check_links.ensures (goes_on _ _ c.in_ok-check_settings.ensures (search rules))
 
@@ -48,5 +47,5 @@ solve_links-requires c =
     let f = fits _ _ c.requires q.1 in
     (q.0 _ f.room.paired, f, w.0)
 
-pub returns : goal.returns
-returns c = call_done (passed (goal.at.returns c).In_ok-further) refl c.solve_links.ensures
+pub returns-clause-checks : goal.returns-clause-checks
+returns-clause-checks c = call_done (passed (goal.at.returns-clause-checks c).In_ok-further) refl c.solve_links.ensures.settles

@@ -16,5 +16,5 @@ loop-v-preserved c = let s = c.loop-v in rw (s.invariant, add-one)
 
 pub returns : goal.returns
 returns c = let s = c.loop-v in let a = c.args in
-    let e : s.v ≡ length a.backward_estimate.now = omega arith in
+    let e : s.v ≡ length a.backward.estimate.now = omega arith in
     rw e at s.invariant

@@ -4,4 +4,4 @@ use Rattle.rules.specs.Answers.{combined}
 use Rattle.combination.proofs.combine.Given as goal
 
 abbrev pub invariant-loop-v : goal.invariant-loop-v
-invariant-loop-v l = l.total ≡ combined l.alpha l.backward_estimate l.backward_residual l.forward_estimate l.forward_residual l.v
+invariant-loop-v l = l.total ≡ combined l.alpha l.backward.estimate.now l.backward.residual.now l.forward.estimate.now l.forward.residual.now l.v

@@ -32,7 +32,7 @@ returns-in_err-check_alpha c =
 pub combine-requires : goal.combine-requires
 unfolding combined_refusal refuse_lengths lengths_differ
 combine-requires c = let a = c.args in
-    passed a.backward_estimate.now a.backward_residual.now a.forward_estimate.now a.forward_residual.now a.alpha
+    passed a.backward.estimate.now a.backward.residual.now a.forward.estimate.now a.forward.residual.now a.alpha
     (goes_on _ _ c.in_ok-check_sizes.ensures c.in_ok-check_alpha.ensures)
 
 pub returns : goal.returns

@@ -5,26 +5,26 @@ use lib.Seq.{length-take-le}
 use Rattle.calls.specs.Lent.{words}
 use Rattle.job_answer.proofs.solve_lists.Goals as goal
 
+pub slice_bounds-vectors-end : goal.slice_bounds-vectors-end
+slice_bounds-vectors-end c = sym (length-take-le _ _ (omega arith))
+
+pub slice_bounds-vectors-end-2 : goal.slice_bounds-vectors-end-2
+slice_bounds-vectors-end-2 c = sym (length-take-le _ _ (omega arith))
+
+pub slice_bounds-workspace-end : goal.slice_bounds-workspace-end
+slice_bounds-workspace-end c = sym (length-take-le _ _ (omega arith))
+
+pub slice_bounds-workspace-end-2 : goal.slice_bounds-workspace-end-2
+slice_bounds-workspace-end-2 c = sym (length-take-le _ _ (omega arith))
+
+pub slice_bounds-workspace-end-3 : goal.slice_bounds-workspace-end-3
+slice_bounds-workspace-end-3 c = sym (length-take-le _ _ (omega arith))
+
+pub slice_bounds-workspace-end-4 : goal.slice_bounds-workspace-end-4
+slice_bounds-workspace-end-4 c = sym (length-take-le _ _ (omega arith))
+
 pub slice_bounds-solve_and_tell-end : goal.slice_bounds-solve_and_tell-end
 slice_bounds-solve_and_tell-end c = sym (length-take-le _ _ (omega arith))
-
-pub slice_bounds-solve_and_tell-end-2 : goal.slice_bounds-solve_and_tell-end-2
-slice_bounds-solve_and_tell-end-2 c = sym (length-take-le _ _ (omega arith))
-
-pub slice_bounds-solve_and_tell-end-3 : goal.slice_bounds-solve_and_tell-end-3
-slice_bounds-solve_and_tell-end-3 c = sym (length-take-le _ _ (omega arith))
-
-pub slice_bounds-solve_and_tell-end-4 : goal.slice_bounds-solve_and_tell-end-4
-slice_bounds-solve_and_tell-end-4 c = sym (length-take-le _ _ (omega arith))
-
-pub slice_bounds-solve_and_tell-end-5 : goal.slice_bounds-solve_and_tell-end-5
-slice_bounds-solve_and_tell-end-5 c = sym (length-take-le _ _ (omega arith))
-
-pub slice_bounds-solve_and_tell-end-6 : goal.slice_bounds-solve_and_tell-end-6
-slice_bounds-solve_and_tell-end-6 c = sym (length-take-le _ _ (omega arith))
-
-pub slice_bounds-solve_and_tell-end-7 : goal.slice_bounds-solve_and_tell-end-7
-slice_bounds-solve_and_tell-end-7 c = sym (length-take-le _ _ (omega arith))
 
 pub solve_and_tell-requires : goal.solve_and_tell-requires
 unfolding words

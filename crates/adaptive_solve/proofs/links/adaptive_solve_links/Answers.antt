@@ -2,6 +2,6 @@
 use Rattle.numbers.specs.Choice.{if◌then◌otherwise◌}
 use Rattle.adaptive_solve.proofs.links.adaptive_solve_links.Goals as goal
 
-pub returns : goal.returns
+pub returns-clause-outcome : goal.returns-clause-outcome
 unfolding if◌then◌otherwise◌
-returns c = c.checked_links.ensures.leaves
+returns-clause-outcome c = c.checked_links.ensures.checks.leaves

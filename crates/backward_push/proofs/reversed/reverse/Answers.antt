@@ -12,8 +12,8 @@ reverse_rows-requires c = c.requires.0
 pub sum_rows-requires-2 : goal.sum_rows-requires-2
 sum_rows-requires-2 c = rw c.requires.1 (summing_of (held_rowed c.reverse_rows.ensures.held))
 
-pub returns : goal.returns
-returns c = let p = c.requires in
+pub returns-clause-reversed : goal.returns-clause-reversed
+returns-clause-reversed c = let p = c.requires in
     record {
       reversed = c.reverse_rows.ensures.held;
       in_degrees_are = rw p.1 at c.sum_rows-2.ensures;

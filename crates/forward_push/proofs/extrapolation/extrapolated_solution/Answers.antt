@@ -29,7 +29,7 @@ returns-in_err-check_alpha c =
 pub extrapolate-requires : goal.extrapolate-requires
 unfolding extrapolated_refusal refuse_lengths lengths_differ
 extrapolate-requires c = let a = c.args in
-    passed a.estimate.now a.residual.now a.alpha a.solution.now (goes_on _ _ c.in_ok-check_sizes.ensures c.in_ok-check_alpha.ensures)
+    passed a.found.estimate.now a.found.residual.now a.alpha a.solution.now (goes_on _ _ c.in_ok-check_sizes.ensures c.in_ok-check_alpha.ensures)
 
 pub returns : goal.returns
 unfolding extrapolating extrapolated_refusal refuse_lengths lengths_differ

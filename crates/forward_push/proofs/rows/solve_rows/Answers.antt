@@ -15,9 +15,9 @@ solve_settled-counts-requires c = let p = c.requires in
     let z = directed_forward p.0 (rw p.1.degrees_long at e) refl refl in
     (rows_ready z, fits_still z p.1, p.2)
 
-pub returns : goal.returns
+pub returns-clause-settles : goal.returns-clause-settles
 unfolding given_rows ends
-returns c = let a = c.args in
+returns-clause-settles c = let a = c.args in
     let p = c.requires in
     let z = directed_forward p.0 (rw p.1.degrees_long at c.sum_rows.ensures) refl refl in
-    record { leaves = directed_left z a.settings (watch_in a.watch) a.sources.now c.solve_settled-counts.ensures (rw (degrees_long z) at (c.fill.ensures.after (λ _ e. e))) }
+    record { leaves = directed_left z a.settings (watch_in a.watch) a.sources.now c.solve_settled-counts.ensures.settled (rw (degrees_long z) at (c.fill.ensures.after (λ _ e. e))) }

@@ -9,6 +9,6 @@ use Rattle.query_single_entry.proofs.links.query_single_entry_links.Goals as goa
 pub checked_links-counts-requires : goal.checked_links-counts-requires
 checked_links-counts-requires c = λ _. omega arith
 
-pub returns : goal.returns
+pub returns-clause-outcome : goal.returns-clause-outcome
 unfolding watch_in
-returns c = query_answered _ _ (links_vectors forward_vectors _ _ _ _ _) (no_further refl c.checked_links-counts.ensures) c.answered.ensures
+returns-clause-outcome c = query_answered _ _ (links_vectors forward_vectors _ _ _ _ _) (no_further refl c.checked_links-counts.ensures.checks) c.answered.ensures

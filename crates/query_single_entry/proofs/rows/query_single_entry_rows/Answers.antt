@@ -9,6 +9,6 @@ use Rattle.query_single_entry.proofs.rows.query_single_entry_rows.Goals as goal
 pub checked_rows-counts-requires : goal.checked_rows-counts-requires
 checked_rows-counts-requires c = λ _. omega arith
 
-pub returns : goal.returns
+pub returns-clause-outcome : goal.returns-clause-outcome
 unfolding watch_in
-returns c = query_answered _ _ (rows_vectors forward_vectors _ _ _ _ _) (no_further refl c.checked_rows-counts.ensures) c.answered.ensures
+returns-clause-outcome c = query_answered _ _ (rows_vectors forward_vectors _ _ _ _ _) (no_further refl c.checked_rows-counts.ensures.checks) c.answered.ensures

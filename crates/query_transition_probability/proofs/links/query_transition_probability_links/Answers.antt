@@ -12,8 +12,8 @@ use Rattle.query_transition_probability.proofs.links.query_transition_probabilit
 pub checked_links-counts-requires : goal.checked_links-counts-requires
 checked_links-counts-requires c = λ _. omega arith
 
-pub returns : goal.returns
+pub returns-clause-outcome : goal.returns-clause-outcome
 unfolding watch_in
-returns c = query_answered _ _ (links_vectors backward_vectors _ _ _ _ _)
-    (no_further refl (c.checked_links-counts.ensures [] none_besides))
+returns-clause-outcome c = query_answered _ _ (links_vectors backward_vectors _ _ _ _ _)
+    (no_further refl (c.checked_links-counts.ensures.checks [] none_besides))
     c.answered.ensures

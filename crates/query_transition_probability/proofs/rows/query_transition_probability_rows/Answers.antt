@@ -12,8 +12,8 @@ use Rattle.query_transition_probability.proofs.rows.query_transition_probability
 pub checked_rows-counts-requires : goal.checked_rows-counts-requires
 checked_rows-counts-requires c = λ _. omega arith
 
-pub returns : goal.returns
+pub returns-clause-outcome : goal.returns-clause-outcome
 unfolding watch_in
-returns c = query_answered _ _ (rows_vectors backward_vectors _ _ _ _ _)
-    (no_further refl (c.checked_rows-counts.ensures [] none_besides))
+returns-clause-outcome c = query_answered _ _ (rows_vectors backward_vectors _ _ _ _ _)
+    (no_further refl (c.checked_rows-counts.ensures.checks [] none_besides))
     c.answered.ensures

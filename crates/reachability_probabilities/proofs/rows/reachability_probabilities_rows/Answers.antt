@@ -13,23 +13,23 @@ use Rattle.reachability_probabilities.proofs.rows.reachability_probabilities_row
 pub checked_rows-requires : goal.checked_rows-requires
 checked_rows-requires c = λ _. omega arith
 
-pub returns-in_err-checked_rows : goal.returns-in_err-checked_rows
+pub returns-in_err-checked_rows-clause-outcome : goal.returns-in_err-checked_rows-clause-outcome
 unfolding watch_in
-returns-in_err-checked_rows c =
+returns-in_err-checked_rows-clause-outcome c =
     let a = c.args in
     let p = err_from_is_err_and c.from_residual.result c.from_residual.ensures.1 in
-    rw (p.1, p.2) (reach_refused (rows_beside a.n a.solution.now a.starts.now a.columns.now a.weights.now _) a.settings a.target (c.in_err-checked_rows.ensures ((_, _) ∷ []) (one_besides _ _)) (above_zero _))
+    rw (p.1, p.2) (reach_refused (rows_beside a.rows.nodes a.solution.now a.rows.starts.now a.rows.columns.now a.rows.weights.now _) a.settings a.target (c.in_err-checked_rows.ensures.checks ((_, _) ∷ []) (one_besides _ _)) (above_zero _))
 
 pub extrapolate-requires : goal.extrapolate-requires
 unfolding watch_in
 extrapolate-requires c = let a = c.args in
-    let l = (rows_sized a.n a.solution.now a.starts.now a.columns.now a.weights.now _ (c.in_ok-checked_rows.ensures ((_, _) ∷ []) (one_besides _ _)) refl).long in
-    let e = c.checked_rows.auto.estimate ∙ l.1.1.1.1.1.0 in
-    (c.checked_rows.auto.residual ∙ l.1.1.1.1.1.1.0 ∙ sym e, l.0 ∙ sym e)
+    let l = (rows_sized a.rows.nodes a.solution.now a.rows.starts.now a.rows.columns.now a.rows.weights.now _ (c.in_ok-checked_rows.ensures.checks ((_, _) ∷ []) (one_besides _ _)) refl).long in
+    let e = c.checked_rows.ensures.same_vectors.estimate.1 ∙ l.1.1.1.1.1.0 in
+    rw (c.read.ensures.0, c.read.ensures.1) (c.checked_rows.ensures.same_vectors.residual.1 ∙ l.1.1.1.1.1.1.0 ∙ sym e, l.0 ∙ sym e)
 
-pub returns : goal.returns
+pub returns-clause-outcome : goal.returns-clause-outcome
 unfolding watch_in
-returns c = let a = c.args in
-    let h = c.in_ok-checked_rows.ensures ((_, _) ∷ []) (one_besides _ _) in
-    let l = (rows_sized a.n a.solution.now a.starts.now a.columns.now a.weights.now _ h refl).long in
-    reach_done (rows_beside a.n a.solution.now a.starts.now a.columns.now a.weights.now _) a.settings a.target h (rows_vectors (answering_vectors a.n a.solution.now) a.n a.starts.now a.columns.now a.weights.now _) refl (c.checked_rows.auto.estimate ∙ l.1.1.1.1.1.0) c.extrapolate.ensures
+returns-clause-outcome c = let a = c.args in
+    let h = c.in_ok-checked_rows.ensures.checks ((_, _) ∷ []) (one_besides _ _) in
+    let l = (rows_sized a.rows.nodes a.solution.now a.rows.starts.now a.rows.columns.now a.rows.weights.now _ h refl).long in
+    reach_done (rows_beside a.rows.nodes a.solution.now a.rows.starts.now a.rows.columns.now a.rows.weights.now _) a.settings a.target h (rows_vectors (answering_vectors a.rows.nodes a.solution.now) a.rows.nodes a.rows.starts.now a.rows.columns.now a.rows.weights.now _) refl (c.checked_rows.ensures.same_vectors.estimate.1 ∙ l.1.1.1.1.1.0) (rw (c.read.ensures.0, c.read.ensures.1) at c.extrapolate.ensures)

@@ -2,6 +2,6 @@
 use Rattle.numbers.specs.Choice.{if◌then◌otherwise◌}
 use Rattle.solve_bidirectional.proofs.rows.solve_bidirectional_rows.Goals as goal
 
-pub returns : goal.returns
+pub returns-clause-outcome : goal.returns-clause-outcome
 unfolding if◌then◌otherwise◌
-returns c = c.checked_rows.ensures.leaves
+returns-clause-outcome c = c.checked_rows.ensures.checks.leaves

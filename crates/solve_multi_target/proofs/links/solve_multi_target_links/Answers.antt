@@ -11,8 +11,8 @@ use Rattle.solve_multi_target.proofs.links.solve_multi_target_links.Goals as goa
 pub checked_links-counts-requires : goal.checked_links-counts-requires
 checked_links-counts-requires c = λ h. h
 
-pub returns : goal.returns
+pub returns-clause-outcome : goal.returns-clause-outcome
 unfolding watch_in
-returns c = solve_measured (links_vectors backward_vectors _ _ _ _ _)
-    (no_further refl (c.checked_links-counts.ensures [] none_besides))
+returns-clause-outcome c = solve_measured (links_vectors backward_vectors _ _ _ _ _)
+    (no_further refl (c.checked_links-counts.ensures.checks [] none_besides))
     c.measured.ensures

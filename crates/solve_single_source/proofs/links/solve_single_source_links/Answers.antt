@@ -9,6 +9,7 @@ use Rattle.solve_single_source.proofs.links.solve_single_source_links.Goals as g
 pub checked_links-counts-requires : goal.checked_links-counts-requires
 checked_links-counts-requires c = λ _. omega arith
 
-pub returns : goal.returns
+pub returns-clause-outcome : goal.returns-clause-outcome
 unfolding watch_in
-returns c = solve_measured (links_vectors forward_vectors _ _ _ _ _) (no_further refl c.checked_links-counts.ensures) c.measured.ensures
+returns-clause-outcome c =
+    solve_measured (links_vectors forward_vectors _ _ _ _ _) (no_further refl c.checked_links-counts.ensures.checks) c.measured.ensures

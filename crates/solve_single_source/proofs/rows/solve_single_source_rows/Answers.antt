@@ -9,6 +9,7 @@ use Rattle.solve_single_source.proofs.rows.solve_single_source_rows.Goals as goa
 pub checked_rows-counts-requires : goal.checked_rows-counts-requires
 checked_rows-counts-requires c = λ _. omega arith
 
-pub returns : goal.returns
+pub returns-clause-outcome : goal.returns-clause-outcome
 unfolding watch_in
-returns c = solve_measured (rows_vectors forward_vectors _ _ _ _ _) (no_further refl c.checked_rows-counts.ensures) c.measured.ensures
+returns-clause-outcome c =
+    solve_measured (rows_vectors forward_vectors _ _ _ _ _) (no_further refl c.checked_rows-counts.ensures.checks) c.measured.ensures

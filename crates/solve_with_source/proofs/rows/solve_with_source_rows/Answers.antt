@@ -11,8 +11,8 @@ use Rattle.solve_with_source.proofs.rows.solve_with_source_rows.Goals as goal
 pub checked_rows-counts-requires : goal.checked_rows-counts-requires
 checked_rows-counts-requires c = λ _. omega arith
 
-pub returns : goal.returns
+pub returns-clause-outcome : goal.returns-clause-outcome
 unfolding watch_in
-returns c = solve_measured (rows_vectors backward_vectors _ _ _ _ _)
-    (with_further c.check_precision-further.ensures (c.checked_rows-counts.ensures [] none_besides))
+returns-clause-outcome c = solve_measured (rows_vectors backward_vectors _ _ _ _ _)
+    (with_further c.check_precision-further.ensures (c.checked_rows-counts.ensures.checks [] none_besides))
     c.measured.ensures

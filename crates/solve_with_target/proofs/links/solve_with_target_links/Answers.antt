@@ -8,6 +8,6 @@ use Rattle.solve_with_target.proofs.links.solve_with_target_links.Goals as goal
 pub checked_links-counts-requires : goal.checked_links-counts-requires
 checked_links-counts-requires c = λ _. omega arith
 
-pub returns : goal.returns
+pub returns-clause-outcome : goal.returns-clause-outcome
 unfolding watch_in
-returns c = solve_measured (links_vectors forward_vectors _ _ _ _ _) (with_further c.check_precision-further.ensures c.checked_links-counts.ensures) c.measured.ensures
+returns-clause-outcome c = solve_measured (links_vectors forward_vectors _ _ _ _ _) (with_further c.check_precision-further.ensures c.checked_links-counts.ensures.checks) c.measured.ensures

@@ -8,6 +8,6 @@ use Rattle.solve_with_target.proofs.rows.solve_with_target_rows.Goals as goal
 pub checked_rows-counts-requires : goal.checked_rows-counts-requires
 checked_rows-counts-requires c = λ _. omega arith
 
-pub returns : goal.returns
+pub returns-clause-outcome : goal.returns-clause-outcome
 unfolding watch_in
-returns c = solve_measured (rows_vectors forward_vectors _ _ _ _ _) (with_further c.check_precision-further.ensures c.checked_rows-counts.ensures) c.measured.ensures
+returns-clause-outcome c = solve_measured (rows_vectors forward_vectors _ _ _ _ _) (with_further c.check_precision-further.ensures c.checked_rows-counts.ensures.checks) c.measured.ensures

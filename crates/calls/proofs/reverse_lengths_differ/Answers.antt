@@ -1,8 +1,0 @@
--- `calls::reverse_lengths_differ` meets its contract: the tests, one after the other. Assumes nothing.
-use Rattle.refusals.specs.Refusals.{lengths_differ}
-use borrow.Author.Rules.{rules}
-use Rattle.calls.proofs.reverse_lengths_differ.Goals as goal
-
-pub returns : goal.returns
-unfolding lengths_differ
-returns c = search rules
