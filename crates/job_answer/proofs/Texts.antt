@@ -27,7 +27,7 @@ use Rattle.job_answer.specs.Printed.{settings_in, job_of, job_in, refusal, end, 
 use Rattle.job_answer.specs.Promises.{ListsLong, RowsLong, SolveLong, answer_text, writes}
 
 -- a refusal
-pub text_refused : (number : ℕ) (done : List ℕ) {text text' : List ℕ} {r : ℕ} → (number ≡ 0 → ⊥) → Grown 0 (refused_line number) text r text' → Grown 0 (refused_or number done) text r text'
+pub text_refused : (number : ℕ) (done : List ℕ) {text text' : List ℕ} {at r : ℕ} → (number ≡ 0 → ⊥) → Grown at (refused_line number) text r text' → Grown at (refused_or number done) text r text'
 unfolding refused_or
 text_refused zero done h g = absurd (h refl)
 text_refused (suc k) done h g = g
@@ -39,7 +39,7 @@ text_of zero done h = refl
 text_of (suc k) done h = absurd (omega arith)
 
 -- and what was written then
-pub text_done : (number : ℕ) (done : List ℕ) {text text' : List ℕ} {r : ℕ} → number ≡ 0 → Grown 0 done text r text' → Grown 0 (refused_or number done) text r text'
+pub text_done : (number : ℕ) (done : List ℕ) {text text' : List ℕ} {at r : ℕ} → number ≡ 0 → Grown at done text r text' → Grown at (refused_or number done) text r text'
 text_done number done h g = rw (text_of number done h) g
 
 -- lengths that are as stated fail no test

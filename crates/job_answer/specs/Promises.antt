@@ -6,11 +6,12 @@ use Rattle.calls.specs.declared.Solved.{Solved}
 use Rattle.calls.specs.declared.lent.Links.{Links}
 use Rattle.calls.specs.Lent.{words, SolveLent}
 use Rattle.job_text.specs.Text.{done_line, node_lines}
+use Rattle.job_text.specs.declared.Text.{Text}
 use Rattle.job_answer.specs.Printed.{Job, job_of, refusal, refused_or, Prints, Writes}
 
--- there is room for the text of any job
-abbrev pub Roomy : List ℕ → Type 0
-Roomy text = 16448 ≤ length text
+-- nothing is written yet, and there is room for the text of any job
+abbrev pub Roomy : Text → Type 0
+Roomy text = (text.end ≡ 0) × (16448 ≤ length text.bytes.now)
 
 -- the lists of m links are as long as each other
 pub record ListsLong (m : ℕ) (to : List ℕ) (weight : List Float) : Type 0 where
@@ -44,3 +45,8 @@ answer_text r estimate residual = refused_or r.refusal (done_line r.push_count r
 -- the text of a job that has its shape
 abbrev pub writes : Job → List ℕ → ℕ → List ℕ → Type 0
 writes j = Writes (Prints (refusal j) j)
+
+-- and so in the buffer of a text
+pub record WritesIn (j : Job) (text text' : Text) : Type 0 where
+  pub same : text'.bytes.ghost_name ≡ text.bytes.ghost_name
+  pub written : writes j text.bytes.now text'.end text'.bytes.now

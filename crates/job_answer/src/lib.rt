@@ -6,12 +6,13 @@ ghost use Rattle.calls.specs.Lent.{solved_for};
 ghost use Rattle.calls.specs.Slices.{lent_in};
 ghost use Rattle.io.specs.Counts.{IsPrefixLen};
 ghost use Rattle.job_fields.specs.Shape.{links_in, sources_in, shaped};
-ghost use Rattle.job_text.specs.Text.{Grown};
+ghost use Rattle.job_text.specs.Growth.{GrownBy};
 ghost use Rattle.job_answer.specs.Printed.{settings_in, job_in, prints, Writes};
-ghost use Rattle.job_answer.specs.Promises.{Roomy, ListsLong, RowsLong, SolveLong, job_with, answer_text, writes};
+ghost use Rattle.job_answer.specs.Promises.{Roomy, ListsLong, RowsLong, SolveLong, job_with, answer_text, WritesIn};
 
 use calls::Summary;
 use calls::lent::{Links, RowBuffers, Vectors, Workspace};
+use job_text::Text;
 use refusals::Settings;
 use refusals::refusal::Refusal;
 
@@ -33,22 +34,16 @@ fn settings_in(bytes: &[u8]) -> Settings
 }
 
 // Writes what a solve answered and left in its two vectors.
-fn tell(answer: Result<Summary, Refusal>, vectors: &Vectors<'_>, text: &mut [u8]) -> usize
+fn tell(answer: Result<Summary, Refusal>, vectors: &Vectors<'_>, text: &mut Text<'_>)
     requires { (length vectors.now.estimate.now ≤ 256) × (length vectors.now.residual.now ≡ length vectors.now.estimate.now) × Roomy text.old }
-    ensures { Grown 0 (answer_text (solved_for answer) vectors.now.estimate.now vectors.now.residual.now) text.old result text.new }
+    ensures { GrownBy (answer_text (solved_for answer) vectors.now.estimate.now vectors.now.residual.now) text.old text.new }
 {
     match answer {
         Ok(solve) => {
-            let next = job_text::append_done(
-                text,
-                0,
-                solve.push_count,
-                solve.nodes_visited,
-                solve.residual_norm,
-            );
-            job_text::append_nodes(text, next, vectors.estimate, vectors.residual)
+            text.append_done(solve.push_count, solve.nodes_visited, solve.residual_norm);
+            text.append_nodes(vectors.estimate, vectors.residual);
         }
-        Err(refusal) => job_text::append_refused(text, 0, refusal.into()),
+        Err(refusal) => text.append_refused(refusal.into()),
     }
 }
 
@@ -61,17 +56,17 @@ fn solve_and_tell(
     made: &mut RowBuffers<'_>,
     degrees: &mut [f64],
     workspace: &mut Workspace<'_>,
-    text: &mut [u8],
-) -> usize
+    text: &mut Text<'_>,
+)
     requires n_bound { (links.nodes ≤ 256) × ListsLong (length links.from.now) links.to.now links.weight.now × Roomy text.old }
     requires rows_long { RowsLong links.nodes (length links.from.now) made.old.starts.now made.old.columns.now made.old.weights.now }
     requires solve_long { SolveLong links.nodes (lent_in vectors.old degrees.old workspace.old) }
-    ensures { writes (job_with links.entry sources.now settings) text.old result text.new }
+    ensures { WritesIn (job_with links.entry sources.now settings) text.old text.new }
 {
     let answer = solve_multi_source::links::solve_multi_source_links(
         links, sources, settings, vectors, made, degrees, workspace,
     );
-    tell(answer, vectors, text)
+    tell(answer, vectors, text);
 }
 
 // Lends the vectors, the degrees, the queue and the marks.
@@ -80,11 +75,11 @@ fn solve_lists(
     sources: &[u32],
     settings: Settings,
     made: &mut RowBuffers<'_>,
-    text: &mut [u8],
-) -> usize
+    text: &mut Text<'_>,
+)
     requires n_bound { (links.nodes ≤ 256) × ListsLong (length links.from.now) links.to.now links.weight.now × Roomy text.old }
     requires rows_long { RowsLong links.nodes (length links.from.now) made.old.starts.now made.old.columns.now made.old.weights.now }
-    ensures { writes (job_with links.entry sources.now settings) text.old result text.new }
+    ensures { WritesIn (job_with links.entry sources.now settings) text.old text.new }
 {
     let k = links.nodes as usize;
     let w = (k + 63) / 64;
@@ -114,14 +109,14 @@ fn solve_lists(
         &mut degrees[..k],
         &mut workspace,
         text,
-    )
+    );
 }
 
 // Lends the buffers for rows.
-fn solve_links(links: Links<'_>, sources: &[u32], settings: Settings, text: &mut [u8]) -> usize
+fn solve_links(links: Links<'_>, sources: &[u32], settings: Settings, text: &mut Text<'_>)
     requires n_bound { (links.nodes ≤ 256) × ListsLong (length links.from.now) links.to.now links.weight.now × Roomy text.old }
     requires from_len_bound { length links.from.now ≤ 1024 }
-    ensures { writes (job_with links.entry sources.now settings) text.old result text.new }
+    ensures { WritesIn (job_with links.entry sources.now settings) text.old text.new }
 {
     let k = links.nodes as usize;
     let m = links.from.len();
@@ -133,7 +128,7 @@ fn solve_links(links: Links<'_>, sources: &[u32], settings: Settings, text: &mut
         columns: &mut columns[..m],
         weights: &mut weights[..m],
     };
-    solve_lists(links, sources, settings, &mut made, text)
+    solve_lists(links, sources, settings, &mut made, text);
 }
 
 // Reads the lists, and solves.
@@ -143,11 +138,11 @@ fn read_and_solve(
     to: &mut [u32],
     weight: &mut [f64],
     sources: &mut [u32],
-    text: &mut [u8],
-) -> usize
+    text: &mut Text<'_>,
+)
     requires bytes_value { (shaped bytes.now ≡ true) × ListsLong (length from.old) to.old weight.old × Roomy text.old }
     requires from_len { (length from.old ≡ links_in bytes.now) × (length sources.old ≡ sources_in bytes.now) }
-    ensures { writes (job_in bytes.now) text.old result text.new }
+    ensures { WritesIn (job_in bytes.now) text.old text.new }
 {
     job_fields::read_fields(bytes, 56, 16, from);
     job_fields::read_fields(bytes, 60, 16, to);
@@ -159,13 +154,13 @@ fn read_and_solve(
         to,
         weight,
     };
-    solve_links(links, sources, settings_in(bytes), text)
+    solve_links(links, sources, settings_in(bytes), text);
 }
 
 // Lends the lists of a job that has its shape.
-fn run_shaped(bytes: &[u8], text: &mut [u8]) -> usize
+fn run_shaped(bytes: &[u8], text: &mut Text<'_>)
     requires { (shaped bytes.now ≡ true) × Roomy text.old }
-    ensures { writes (job_in bytes.now) text.old result text.new }
+    ensures { WritesIn (job_in bytes.now) text.old text.new }
 {
     let links = job_fields::word(bytes, 4) as usize;
     let count = job_fields::word(bytes, 8) as usize;
@@ -180,7 +175,7 @@ fn run_shaped(bytes: &[u8], text: &mut [u8]) -> usize
         &mut weight[..links],
         &mut sources[..count],
         text,
-    )
+    );
 }
 
 // Writes the text of a job, and answers its length.
@@ -188,8 +183,14 @@ pub fn run(bytes: &[u8], text: &mut [u8; ROOM]) -> usize
     ensures writes { Writes (prints bytes.now) text.old result text.new }
     ensures prefix_len { IsPrefixLen result text.new }
 {
+    let mut told = Text {
+        bytes: text,
+        end: 0,
+    };
     if !job_fields::is_shaped(bytes) {
-        return job_text::append_refused(text, 0, Refusal::UnsoundJob.into());
+        told.append_refused(Refusal::UnsoundJob.into());
+        return told.end;
     }
-    run_shaped(bytes, text)
+    run_shaped(bytes, &mut told);
+    told.end
 }

@@ -8,6 +8,8 @@ use lib.ListN.{length, take, drop, take-append-drop, length-take, length-append}
 use lib.Seq.{length-take-le, drop-drop}
 use Rattle.io.specs.Counts.{IsPrefixLen}
 use Rattle.job_text.specs.Text.{Grown}
+use Rattle.job_text.specs.Growth.{GrownBy}
+use Rattle.job_text.specs.declared.Text.{Text}
 
 -- no part
 pub grown_none : (at : ℕ) (text : List ℕ) → Grown at [] text at text
@@ -35,3 +37,7 @@ pub grown_counts : {r : ℕ} {part text text' : List ℕ} → Grown 0 part text 
 grown_counts {r} {part} {text} {text'} g =
     let inside : r ≤ length text' = omega (arith, length-take r text', ap length g.holds, g.next) in
     (inside, sym (length-take-le r text' inside))
+
+-- the same of a text with its end
+pub grown_by : {first second : List ℕ} {t u v : Text} → GrownBy first t u → GrownBy second u v → GrownBy (first ++ second) t v
+grown_by a b = record { same = b.same ∙ a.same; grown = grown_then a.grown b.grown }

@@ -1,28 +1,16 @@
-// The text that a job prints, put piece by piece into a lent buffer. Each function asks that the buffer has room.
+// The text that a job prints, put piece by piece into a lent buffer. Each method asks that the buffer has room.
 #![tactic(auto)]
 
 ghost use Rattle.std.specs.Prelude.{◌≡◌, ◌+◌, ◌*◌, ◌≤◌, ◌<◌, ◌++◌, length};
 ghost use Rattle.io.specs.Digits.{hex_digit_ascii, last_digits};
-ghost use Rattle.job_text.specs.Text.{decimal, bits, space, refused_line, done_line, node_line, node_lines, Grown};
+ghost use Rattle.job_text.specs.Text.{decimal, bits, space, refused_line, done_line, node_line, node_lines};
+ghost use Rattle.job_text.specs.Growth.{HasRoom, GrownBy, Near};
 
-// Puts a part behind the first `at` bytes, and answers where the next one goes.
-pub fn append(text: &mut [u8], at: usize, part: &[u8]) -> usize
-    requires { at + length part.now ≤ length text.old }
-    ensures { Grown at part.now text.old result text.new }
-{
-    let next = at + part.len();
-    text[at..next].copy_from_slice(part);
-    next
-}
-
-// A whole number in decimal.
-pub fn append_decimal(text: &mut [u8], at: usize, n: u64) -> usize
-    requires { at + 20 ≤ length text.old }
-    ensures { Grown at (decimal n) text.old result text.new }
-{
-    let mut digits = [0u8; 20];
-    let k = io::decimal(n, &mut digits);
-    append(text, at, &digits[..k])
+// A text that grows in a lent buffer, with the place of its end.
+#[derive(Drop)]
+pub struct Text<'a> {
+    pub bytes: &'a mut [u8],
+    pub end: usize,
 }
 
 // The ASCII code of a hex digit. It is ours, and not `io::hex`, since the must-fail edit `capital_hex`, which stays, changes
@@ -45,67 +33,87 @@ fn spell(n: u64, room: &mut [u8])
     }
 }
 
-// The bits of a float, as hex digits.
-pub fn append_bits(text: &mut [u8], at: usize, x: f64) -> usize
-    requires { at + 16 ≤ length text.old }
-    ensures { Grown at (bits x) text.old result text.new }
-{
-    let mut digits = [0u8; 16];
-    spell(numbers::bits_of(x), &mut digits);
-    append(text, at, &digits)
-}
-
-// The line of a refusal. It takes the number, as it is written: of the named refusals there are fewer.
-pub fn append_refused(text: &mut [u8], at: usize, number: u32) -> usize
-    requires { at + 64 ≤ length text.old }
-    ensures { Grown at (refused_line number) text.old result text.new }
-{
-    let word = append(text, at, b"refused ");
-    let told = append_decimal(text, word, number as u64);
-    append(text, told, b"\n")
-}
-
-// A whole number and a space.
-fn append_count(text: &mut [u8], at: usize, n: u64) -> usize
-    requires { at + 21 ≤ length text.old }
-    ensures { Grown at (decimal n ++ space) text.old result text.new }
-{
-    let told = append_decimal(text, at, n);
-    append(text, told, b" ")
-}
-
-// The first line of a solve that is done.
-pub fn append_done(text: &mut [u8], at: usize, pushes: u64, visited: u64, norm: f64) -> usize
-    requires { at + 64 ≤ length text.old }
-    ensures { Grown at (done_line pushes visited norm) text.old result text.new × (result ≤ at + 64) }
-{
-    let word = append(text, at, b"done ");
-    let pushed = append_count(text, word, pushes);
-    let seen = append_count(text, pushed, visited);
-    let told = append_bits(text, seen, norm);
-    append(text, told, b"\n")
-}
-
-// The line of a node.
-fn append_node(text: &mut [u8], at: usize, v: u64, estimate: f64, residual: f64) -> usize
-    requires { at + 64 ≤ length text.old }
-    ensures { Grown at (node_line v estimate residual) text.old result text.new × (result ≤ at + 64) }
-{
-    let number = append_count(text, at, v);
-    let scored = append_bits(text, number, estimate);
-    let parted = append(text, scored, b" ");
-    let told = append_bits(text, parted, residual);
-    append(text, told, b"\n")
-}
-
-// The lines of all nodes.
-pub fn append_nodes(text: &mut [u8], at: usize, estimate: &[f64], residual: &[f64]) -> usize
-    requires { (length residual.now ≡ length estimate.now) × (at + 64 * length estimate.now ≤ length text.old) }
-    ensures { Grown at (node_lines 0 estimate.now residual.now) text.old result text.new }
-{
-    let mut next = at;
-    for v in 0..estimate.len() {
-        next = append_node(text, next, v as u64, estimate[v], residual[v]);
+impl Text<'_> {
+    // Puts a part behind the text.
+    pub fn append(&mut self, part: &[u8])
+        requires { HasRoom (length part.now) self.old }
+        ensures { GrownBy part.now self.old self.new }
+    {
+        let next = self.end + part.len();
+        self.bytes[self.end..next].copy_from_slice(part);
+        self.end = next;
     }
-    next
+
+    // A whole number in decimal.
+    pub fn append_decimal(&mut self, n: u64)
+        requires { HasRoom 20 self.old }
+        ensures { GrownBy (decimal n) self.old self.new }
+    {
+        let mut digits = [0u8; 20];
+        let k = io::decimal(n, &mut digits);
+        self.append(&digits[..k]);
+    }
+
+    // The bits of a float, as hex digits.
+    pub fn append_bits(&mut self, x: f64)
+        requires { HasRoom 16 self.old }
+        ensures { GrownBy (bits x) self.old self.new }
+    {
+        let mut digits = [0u8; 16];
+        spell(numbers::bits_of(x), &mut digits);
+        self.append(&digits);
+    }
+
+    // The line of a refusal. It takes the number, as it is written: of the named refusals there are fewer.
+    pub fn append_refused(&mut self, number: u32)
+        requires { HasRoom 64 self.old }
+        ensures { GrownBy (refused_line number) self.old self.new }
+    {
+        self.append(b"refused ");
+        self.append_decimal(number as u64);
+        self.append(b"\n");
+    }
+
+    // A whole number and a space.
+    fn append_count(&mut self, n: u64)
+        requires { HasRoom 21 self.old }
+        ensures { GrownBy (decimal n ++ space) self.old self.new }
+    {
+        self.append_decimal(n);
+        self.append(b" ");
+    }
+
+    // The first line of a solve that is done.
+    pub fn append_done(&mut self, pushes: u64, visited: u64, norm: f64)
+        requires { HasRoom 64 self.old }
+        ensures { GrownBy (done_line pushes visited norm) self.old self.new × Near 64 self.old self.new }
+    {
+        self.append(b"done ");
+        self.append_count(pushes);
+        self.append_count(visited);
+        self.append_bits(norm);
+        self.append(b"\n");
+    }
+
+    // The line of a node.
+    fn append_node(&mut self, v: u64, estimate: f64, residual: f64)
+        requires { HasRoom 64 self.old }
+        ensures { GrownBy (node_line v estimate residual) self.old self.new × Near 64 self.old self.new }
+    {
+        self.append_count(v);
+        self.append_bits(estimate);
+        self.append(b" ");
+        self.append_bits(residual);
+        self.append(b"\n");
+    }
+
+    // The lines of all nodes.
+    pub fn append_nodes(&mut self, estimate: &[f64], residual: &[f64])
+        requires { (length residual.now ≡ length estimate.now) × HasRoom (64 * length estimate.now) self.old }
+        ensures { GrownBy (node_lines 0 estimate.now residual.now) self.old self.new }
+    {
+        for v in 0..estimate.len() {
+            self.append_node(v as u64, estimate[v], residual[v]);
+        }
+    }
 }

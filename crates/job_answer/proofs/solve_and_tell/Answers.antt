@@ -16,5 +16,9 @@ pub returns : goal.returns
 returns c = let a = c.args in
     let l = a.links in
     let q = c.requires in
-    solve_writes l.nodes l.from.now l.to.now l.weight.now a.sources.now a.settings (rows_lent_in a.made.now (lent_in a.vectors.now a.degrees.now a.workspace.now))
-    q.n_bound.1 q.rows_long q.solve_long c.solve_multi_source_links-answer.ensures.outcome c.tell.ensures
+    record {
+      same = c.tell.ensures.same;
+      written =
+          solve_writes l.nodes l.from.now l.to.now l.weight.now a.sources.now a.settings (rows_lent_in a.made.now (lent_in a.vectors.now a.degrees.now a.workspace.now))
+          q.n_bound.1 q.rows_long q.solve_long c.solve_multi_source_links-answer.ensures.outcome (rw q.n_bound.2.0 at c.tell.ensures.grown);
+    }

@@ -1,8 +1,8 @@
--- `job_text::append_decimal` meets its contract: what `io::decimal` gives is put behind the text. Assumes nothing.
+-- `Text::append_decimal` meets its contract: what `io::decimal` gives is put behind the text. Assumes nothing.
 use native.Mathlib.Omega.{arith}
 use Rattle.job_text.specs.Text.{decimal}
 use Rattle.job_text.proofs.Numerals.{fewest_few, fewest_digits}
-use Rattle.job_text.proofs.append_decimal.Goals as goal
+use Rattle.job_text.proofs.Text.append_decimal.Goals as goal
 
 pub returns : goal.returns
 unfolding decimal
