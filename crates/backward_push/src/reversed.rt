@@ -10,7 +10,7 @@ ghost use Rattle.backward_push.specs.Promises.{ReversedIn, backward_lists, forwa
 use calls::lent::Rows;
 use pushes::Graph;
 
-// Lent for the reverse rows and for the degrees of both, and left zero.
+// Lent for the reverse rows and for the degrees of the rows and of the reverse rows, and left zero.
 #[derive(Drop)]
 pub struct ReverseBuffers<'a> {
     pub starts: &'a mut [u32],
@@ -42,6 +42,7 @@ pub fn reverse(rows: Rows<'_>, reverse: &mut ReverseBuffers<'_>, positions: &mut
     ensures reversed { ReversedIn rows.entry reverse.new }
 {
     graph::sum_rows(rows.starts, rows.weights, reverse.out_degrees);
+    // Lent anew first: if the fields themselves were lent to be read, the proof would know only their lengths afterwards.
     let starts = &mut *reverse.starts;
     let weights = &mut *reverse.weights;
     graph::reverse_rows(

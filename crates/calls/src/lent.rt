@@ -37,7 +37,7 @@ pub struct Vectors<'a> {
 
 // The same, to read.
 #[derive(Clone, Copy)]
-pub struct Found<'a> {
+pub struct SharedVectors<'a> {
     pub estimate: &'a [f64],
     pub residual: &'a [f64],
 }
@@ -51,11 +51,11 @@ pub struct Workspace<'a> {
     pub visited: &'a mut [u64],
 }
 
-// Reads the two vectors.
-pub fn read<'a>(vectors: &'a Vectors<'_>) -> Found<'a>
+// Lends the two vectors to be read.
+pub fn read<'a>(vectors: &'a Vectors<'_>) -> SharedVectors<'a>
     ensures { (result.estimate.now ≡ vectors.now.estimate.now) × (result.residual.now ≡ vectors.now.residual.now) }
 {
-    Found {
+    SharedVectors {
         estimate: vectors.estimate,
         residual: vectors.residual,
     }

@@ -16,7 +16,7 @@ ghost use Rattle.calls.specs.Lent.{words, done_counts, counted_for, solved_for, 
 ghost use Rattle.calls.specs.Slices.{lent_in, links_lengths, rows_lengths, SameVectors, SameWorkspace};
 ghost use Rattle.calls.specs.Promises.{Fits, Measured, Queried, SettledIn};
 
-use lent::{Found, Links, RowBuffers, Rows, Vectors, Workspace};
+use lent::{Links, RowBuffers, Rows, SharedVectors, Vectors, Workspace};
 use pushes::{Frontier, Graph, Tally};
 use queue::WorkQueue;
 use refusals::Settings;
@@ -171,7 +171,7 @@ pub fn answered(
 }
 
 // The solution that the residual of a solve lets expect: the estimate and alpha times the residual, node by node.
-pub fn extrapolate(found: Found<'_>, alpha: f64, solution: &mut [f64])
+pub fn extrapolate(found: SharedVectors<'_>, alpha: f64, solution: &mut [f64])
     requires { (length found.residual.now ≡ length found.estimate.now) × (length solution.old ≡ length found.estimate.now) }
     ensures { solution.new ≡ extrapolated alpha (length found.entry.estimate.now) found.entry.estimate.now found.entry.residual.now }
 {

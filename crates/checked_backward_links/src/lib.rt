@@ -80,6 +80,7 @@ fn solve_links(
         made.weights,
         workspace.nodes,
     );
+    // Lent anew first: if the fields themselves were lent to be read, the proof would know only their lengths afterwards.
     let starts = &mut *made.starts;
     let columns = &mut *made.columns;
     let weights = &mut *made.weights;

@@ -8,10 +8,10 @@ ghost use Rattle.rules.specs.Answers.{combined};
 ghost use Rattle.calls.specs.Lent.{scored_for};
 ghost use Rattle.combination.specs.Outcomes.{combining};
 
-use calls::lent::Found;
+use calls::lent::SharedVectors;
 use refusals::refusal::Refusal;
 
-// Which solves are used.
+// Which solves are used: two flags, since `score_by` and `Follows`, which the promises cite, take these.
 #[derive(Clone, Copy)]
 pub struct Uses {
     pub forward: bool,
@@ -20,7 +20,7 @@ pub struct Uses {
 
 // From +0, per node in order: the product of the estimates, and then each residual times the other's estimate times
 // alpha, the backward residual first.
-pub fn combine(backward: Found<'_>, forward: Found<'_>, alpha: f64) -> f64
+pub fn combine(backward: SharedVectors<'_>, forward: SharedVectors<'_>, alpha: f64) -> f64
     requires { (length backward.residual.now ≡ length backward.estimate.now) × (length forward.estimate.now ≡ length backward.estimate.now)
         × (length forward.residual.now ≡ length backward.estimate.now) }
     ensures { result ≡ combined alpha backward.entry.estimate.now backward.entry.residual.now forward.entry.estimate.now forward.entry.residual.now
@@ -38,8 +38,8 @@ pub fn combine(backward: Found<'_>, forward: Found<'_>, alpha: f64) -> f64
 
 // Combines the vectors of a backward and of a forward solve; alpha is the backward one.
 pub fn combine_with_forward(
-    backward: Found<'_>,
-    forward: Found<'_>,
+    backward: SharedVectors<'_>,
+    forward: SharedVectors<'_>,
     alpha: f64,
 ) -> Result<f64, Refusal>
     ensures { scored_for result ≡ combining backward.entry.estimate.now backward.entry.residual.now forward.entry.estimate.now forward.entry.residual.now alpha }

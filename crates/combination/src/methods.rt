@@ -6,9 +6,10 @@ ghost use Rattle.rules.specs.Answers.{method_among};
 ghost use Rattle.combination.specs.Methods.{method_for, Follows, score_by};
 
 use crate::{Uses, combine};
-use calls::lent::Found;
+use calls::lent::SharedVectors;
 
-// Both solves or, in adaptive mode, those that the degrees of source and target speak for.
+// Both solves or, in adaptive mode, those that the degrees of source and target speak for. The mode is a flag, since
+// `method_for`, which the promise cites, takes one.
 pub fn choose(
     adaptive: bool,
     source: u32,
@@ -60,8 +61,8 @@ pub fn score(
     alpha: f64,
     source: u32,
     target: u32,
-    backward: Found<'_>,
-    forward: Found<'_>,
+    backward: SharedVectors<'_>,
+    forward: SharedVectors<'_>,
 ) -> f64
     requires { (length backward.residual.now ≡ length backward.estimate.now) × (length forward.estimate.now ≡ length backward.estimate.now)
         × (length forward.residual.now ≡ length backward.estimate.now) }

@@ -4,12 +4,12 @@ ghost use Rattle.refusals.specs.Answered.{number_in};
 ghost use Rattle.refusals.specs.Calls.{outcome_of};
 ghost use Rattle.forward_push.specs.Outcomes.{extrapolating};
 
-use calls::lent::Found;
+use calls::lent::SharedVectors;
 use refusals::refusal::Refusal;
 
 // Estimate + alpha × residual, refused for too many nodes, a wrong length or alpha.
 pub fn extrapolated_solution(
-    found: Found<'_>,
+    found: SharedVectors<'_>,
     alpha: f64,
     solution: &mut [f64],
 ) -> Result<(), Refusal>

@@ -4,7 +4,7 @@ ghost use Rattle.std.specs.Prelude.{◌≡◌};
 ghost use Rattle.combination.specs.Outcomes.{combining};
 
 use calls::Scored;
-use calls::lent::Found;
+use calls::lent::SharedVectors;
 
 #[unsafe(no_mangle)]
 pub extern "C" fn combine_with_forward(
@@ -16,11 +16,11 @@ pub extern "C" fn combine_with_forward(
 ) -> Scored
     ensures { result ≡ combining backward_estimate.now backward_residual.now forward_estimate.now forward_residual.now alpha }
 {
-    let backward = Found {
+    let backward = SharedVectors {
         estimate: backward_estimate,
         residual: backward_residual,
     };
-    let forward = Found {
+    let forward = SharedVectors {
         estimate: forward_estimate,
         residual: forward_residual,
     };

@@ -5,7 +5,7 @@ ghost use Rattle.refusals.specs.Calls.{outcome_of};
 ghost use Rattle.forward_push.specs.Outcomes.{extrapolating};
 
 use crate::number::number_for;
-use calls::lent::Found;
+use calls::lent::SharedVectors;
 
 #[unsafe(no_mangle)]
 pub extern "C" fn extrapolated_solution(
@@ -16,6 +16,6 @@ pub extern "C" fn extrapolated_solution(
 ) -> u32
     ensures { outcome_of result solution.new ≡ extrapolating estimate.now residual.now alpha solution.old }
 {
-    let found = Found { estimate, residual };
+    let found = SharedVectors { estimate, residual };
     number_for(forward_push::extrapolation::extrapolated_solution(found, alpha, solution))
 }

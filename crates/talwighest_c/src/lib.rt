@@ -1,5 +1,6 @@
-// The library as C calls it: each public function, under its own name, with its own promise. An
-// answer becomes the record, or the number, that C reads. Nothing else is decided here.
+// The library as C calls it: each public function, under its own name, with its own promise. C's
+// lists become the structs that the library takes, and its answer the record, or the number, that C reads. Nothing else is
+// decided here.
 
 #![tactic(auto)]
 
