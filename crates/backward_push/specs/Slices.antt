@@ -1,5 +1,5 @@
 -- What the buffers of a backward solve hold, as its outcomes speak of them, and that their slices stay the same ones. Assumes nothing.
-use Rattle.pushes.specs.Slices.{SameSlice}
+use Rattle.numbers.specs.Slices.{SameSlice}
 use Rattle.calls.specs.declared.lent.Vectors.{Vectors}
 use Rattle.calls.specs.declared.lent.Workspace.{Workspace}
 use Rattle.calls.specs.Slices.{lent_in}

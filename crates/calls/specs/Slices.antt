@@ -1,6 +1,6 @@
 -- What the structs of lent slices hold, as the outcomes speak of it, and that their slices stay the same ones. Assumes nothing.
 use Rattle.std.specs.Prelude.{ℕ, ◌+◌, List, [], ◌∷◌, length, Float}
-use Rattle.pushes.specs.Slices.{SameSlice}
+use Rattle.numbers.specs.Slices.{SameSlice}
 use Rattle.calls.specs.declared.lent.Links.{Links}
 use Rattle.calls.specs.declared.lent.Rows.{Rows}
 use Rattle.calls.specs.declared.lent.RowBuffers.{RowBuffers}

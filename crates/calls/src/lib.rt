@@ -95,24 +95,26 @@ impl From<Result<f64, Refusal>> for Scored {
 pub fn solve_lengths_differ(
     before: bool,
     n: u32,
-    vectors: &Vectors<'_>,
+    estimate: usize,
+    residual: usize,
     degrees: usize,
-    workspace: &Workspace<'_>,
+    priorities: usize,
+    nodes: usize,
+    queued: usize,
+    visited: usize,
 ) -> bool
-    ensures { result ≡ lengths_differ before ((length vectors.now.estimate.now, n) ∷ (length vectors.now.residual.now, n) ∷ (degrees, n)
-        ∷ (length workspace.now.priorities.now, n) ∷ (length workspace.now.nodes.now, n)
-        ∷ (length workspace.now.queued.now, words n) ∷ (length workspace.now.visited.now, words n) ∷ []) }
+    ensures { result ≡ lengths_differ before ((estimate, n) ∷ (residual, n) ∷ (degrees, n) ∷ (priorities, n) ∷ (nodes, n) ∷ (queued, words n) ∷ (visited, words n) ∷ []) }
 {
     let k = n as usize;
     let w = (k + 63) / 64;
     before
-        | (vectors.estimate.len() != k)
-        | (vectors.residual.len() != k)
+        | (estimate != k)
+        | (residual != k)
         | (degrees != k)
-        | (workspace.priorities.len() != k)
-        | (workspace.nodes.len() != k)
-        | (workspace.queued.len() != w)
-        | (workspace.visited.len() != w)
+        | (priorities != k)
+        | (nodes != k)
+        | (queued != w)
+        | (visited != w)
 }
 
 // Whether a list of a call with links, or a buffer for their rows, has another length than stated.
@@ -135,6 +137,7 @@ pub fn rows_lengths_differ(rows: Rows<'_>) -> bool
 }
 
 // The answer of a solve, with the norm of its residual if it is done.
+#[tactic(auto, using(refusals::proofs::Numbered::above_zero))]
 pub fn measured(counts: Result<Counts, Refusal>, vectors: &Vectors<'_>) -> Result<Summary, Refusal>
     ensures { Measured (counted_for counts) vectors.now.residual.now (solved_for result) }
 {
@@ -159,6 +162,7 @@ pub fn score_at(estimate: &[f64], v: u32) -> f64
 }
 
 // The answer of a query, which is the score of v if its solve is done.
+#[tactic(auto, using(refusals::proofs::Numbered::above_zero))]
 pub fn answered(
     counts: Result<Counts, Refusal>,
     vectors: &Vectors<'_>,

@@ -42,8 +42,17 @@ pub fn check_links(
     let m = links.from.len();
     let lists = calls::links_lengths_differ(links, made);
     let differ = reversed::reverse_lengths_differ(lists | other, n, m, reverse);
-    let in_degrees = reverse.in_degrees.len();
-    let differ = calls::solve_lengths_differ(differ, n, vectors, in_degrees, workspace);
+    let differ = calls::solve_lengths_differ(
+        differ,
+        n,
+        vectors.estimate.len(),
+        vectors.residual.len(),
+        reverse.in_degrees.len(),
+        workspace.priorities.len(),
+        workspace.nodes.len(),
+        workspace.queued.len(),
+        workspace.visited.len(),
+    );
     refusals::check_links(n as usize, m, listed, differ, links.weight)
 }
 

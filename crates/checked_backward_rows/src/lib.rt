@@ -38,8 +38,17 @@ pub fn check_rows(
     let n = rows.nodes;
     let lists = calls::rows_lengths_differ(rows);
     let differ = reversed::reverse_lengths_differ(lists | other, n, rows.columns.len(), reverse);
-    let in_degrees = reverse.in_degrees.len();
-    let differ = calls::solve_lengths_differ(differ, n, vectors, in_degrees, workspace);
+    let differ = calls::solve_lengths_differ(
+        differ,
+        n,
+        vectors.estimate.len(),
+        vectors.residual.len(),
+        reverse.in_degrees.len(),
+        workspace.priorities.len(),
+        workspace.nodes.len(),
+        workspace.queued.len(),
+        workspace.visited.len(),
+    );
     refusals::check_rows(n, listed, differ, rows.starts, rows.columns, rows.weights)
 }
 

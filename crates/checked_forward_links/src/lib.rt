@@ -33,7 +33,17 @@ fn check_links(
         links.entry.weight.now }
 {
     let lists = calls::links_lengths_differ(links, made);
-    let differ = calls::solve_lengths_differ(lists, links.nodes, vectors, degrees.len(), workspace);
+    let differ = calls::solve_lengths_differ(
+        lists,
+        links.nodes,
+        vectors.estimate.len(),
+        vectors.residual.len(),
+        degrees.len(),
+        workspace.priorities.len(),
+        workspace.nodes.len(),
+        workspace.queued.len(),
+        workspace.visited.len(),
+    );
     refusals::check_links(
         links.nodes as usize,
         links.from.len(),

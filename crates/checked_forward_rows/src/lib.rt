@@ -30,7 +30,17 @@ fn check_rows(
         rows.entry.starts.now rows.entry.columns.now rows.entry.weights.now }
 {
     let lists = calls::rows_lengths_differ(rows);
-    let differ = calls::solve_lengths_differ(lists, rows.nodes, vectors, degrees.len(), workspace);
+    let differ = calls::solve_lengths_differ(
+        lists,
+        rows.nodes,
+        vectors.estimate.len(),
+        vectors.residual.len(),
+        degrees.len(),
+        workspace.priorities.len(),
+        workspace.nodes.len(),
+        workspace.queued.len(),
+        workspace.visited.len(),
+    );
     refusals::check_rows(
         rows.nodes,
         listed,

@@ -1,5 +1,4 @@
 -- The definitions that the contracts of `pushes` cite, and those of `solver`.
-pub mod Slices
 pub mod States
 pub mod Buffers
 pub mod Meant

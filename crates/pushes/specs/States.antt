@@ -1,12 +1,12 @@
 -- Inner: no public promise cites it.
 -- What the buffers of a solve stand for: the state of the rules. Assumes nothing.
 use Rattle.std.specs.Prelude.{ℕ, ◌≤◌, Bool, false, List, ◌≡◌, Float}
+use Rattle.numbers.specs.Slices.{SameSlice}
 use Rattle.numbers.specs.Tables.{tabulate}
 use Rattle.marks.specs.Marks.{marked}
 use Rattle.queue.specs.Heap.{waiting}
 use Rattle.queue.specs.declared.WorkQueue.{WorkQueue}
 use Rattle.rules.specs.Rules.{State}
-use Rattle.pushes.specs.Slices.{SameSlice}
 use Rattle.pushes.specs.declared.Frontier.{Frontier}
 use Rattle.pushes.specs.declared.Tally.{Tally}
 

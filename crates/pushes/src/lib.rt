@@ -7,7 +7,7 @@ ghost use Rattle.graph.specs.Rows.{entries_of};
 ghost use Rattle.rules.specs.Ways.{share_of};
 ghost use Rattle.rules.specs.Ways as Ways;
 ghost use Rattle.rules.specs.Rules.{each, gain, offer, pass, hand_out, push};
-ghost use Rattle.pushes.specs.States.{pending_in, SameFrontier};
+ghost use Rattle.pushes.specs.States.{pending, pending_in, SameFrontier};
 ghost use Rattle.pushes.specs.Buffers.{nodes_in, Seated, Row, RowsIn};
 ghost use Rattle.pushes.specs.Meant.{Weighs, Along, StandsIn};
 ghost use Rattle.pushes.specs.Promises.{Moved, Pushed, Absorbed};
@@ -67,27 +67,25 @@ fn share(backward: bool, rest: f64, degree: f64, weight: f64, out_degree: f64) -
 }
 
 // The node v is offered at its residual over e. If it waits already, it stays as it is, and neither is looked up.
-pub fn offer_node(v: u32, degrees: &[f64], frontier: &mut Frontier<'_>)
-    requires { Seated (length degrees.now) v (pending_in frontier.old) }
-    ensures same_frontier { SameFrontier frontier.old frontier.new }
-    ensures residual_stays { frontier.new.residual.now ≡ frontier.old.residual.now }
-    ensures moved { Moved (Weighs degrees.now v) (λ way. offer way v) (length degrees.now) (pending_in frontier.old) (pending_in frontier.new) }
+pub fn offer_node(
+    q: WorkQueue,
+    v: u32,
+    degrees: &[f64],
+    residual: &[f64],
+    priorities: &mut [f64],
+    nodes: &mut [u32],
+    queued: &mut [u64],
+) -> WorkQueue
+    requires { Seated (length degrees.now) v (pending q residual.now priorities.old nodes.old queued.old) }
+    ensures { Moved (Weighs degrees.now v) (λ way. offer way v) (length degrees.now)
+        (pending q residual.now priorities.old nodes.old queued.old) (pending result residual.now priorities.new nodes.new queued.new) }
 {
-    // Lent anew first: if the field itself were lent to be read, the proof would know only its length afterwards.
-    let queued = &mut *frontier.queued;
     if queue::waits(queued, v) {
-        return;
+        return q;
     }
     let at = v as usize;
-    let priority = frontier.residual[at] / effective(degrees[at]);
-    frontier.queue = queue::held::offer(
-        frontier.queue,
-        frontier.priorities,
-        frontier.nodes,
-        frontier.queued,
-        v,
-        priority,
-    );
+    let priority = residual[at] / effective(degrees[at]);
+    queue::held::offer(q, priorities, nodes, queued, v, priority)
 }
 
 // The node v gets x, and is offered just after.
@@ -99,7 +97,17 @@ fn pass_on(v: u32, x: f64, degrees: &[f64], frontier: &mut Frontier<'_>)
 {
     let at = v as usize;
     frontier.residual[at] = frontier.residual[at] + x;
-    offer_node(v, degrees, frontier);
+    // Lent anew first: if the field itself were lent to be read, the proof would know only its length afterwards.
+    let residual = &mut *frontier.residual;
+    frontier.queue = offer_node(
+        frontier.queue,
+        v,
+        degrees,
+        residual,
+        frontier.priorities,
+        frontier.nodes,
+        frontier.queued,
+    );
 }
 
 // Each entry of a row gets its share of the rest.

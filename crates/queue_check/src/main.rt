@@ -125,6 +125,7 @@ impl Tally {
     }
 }
 
+// The line with its end, so that the last word and the end are one write.
 impl fmt::Display for Tally {
     fn fmt<W: Write>(&self, f: &mut fmt::Formatter<W>) -> fmt::Result {
         let Tally {
@@ -134,7 +135,7 @@ impl fmt::Display for Tally {
         } = self;
         write!(
             f,
-            "{sequences} sequences, {operations} operations, {differ} differ"
+            "{sequences} sequences, {operations} operations, {differ} differ\n"
         )
     }
 }
@@ -166,5 +167,5 @@ fn main() {
         let n = io::read_full(STDIN_FILENO, &mut buffer);
         replay.replay(&mut tally, &buffer[..n]);
     }
-    let _ = writeln!(Output, "{tally}");
+    let _ = write!(Output, "{tally}");
 }

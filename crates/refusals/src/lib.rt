@@ -1,6 +1,7 @@
 // The tests of the public calls: what a call is refused for, if anything. Each answers with the first refusal that applies.
 #![tactic(auto)]
 
+pub mod own_number;
 pub mod refusal;
 
 ghost use Rattle.std.specs.Prelude.{◌≡◌, length, get_or, leb};
@@ -209,6 +210,8 @@ pub fn check_rows(
         or refuse_rows n starts.now columns.now or refuse_weights ws.now) }
 {
     check_sizes(n as usize, columns.len(), s, differ)?;
+    // Every weight is read, even after a start or a column has failed.
+    let weights_checked = check_weights(ws);
     check_starts(n, starts, columns)?;
-    check_weights(ws)
+    weights_checked
 }

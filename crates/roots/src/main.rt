@@ -20,10 +20,12 @@ impl Write for Output {
     }
 }
 
-// Shows the root of n.
+// Shows the root of n. The digits are one write: with `{:016x}` the zeros in front of a short number would be another.
 fn show(n: u32) {
     let bits = numbers::bits_of(norm::square_root(f64::from(n)));
-    let _ = writeln!(Output, "square root of {n}: {bits:016x}");
+    let _ = write!(Output, "square root of {n}: ");
+    io::print_hex(STDOUT_FILENO, bits, 16);
+    let _ = writeln!(Output);
 }
 
 fn main() {

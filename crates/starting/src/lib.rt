@@ -44,7 +44,17 @@ fn offer_one(v: u32, degrees: &[f64], frontier: &mut Frontier<'_>)
 {
     let at = v as usize;
     if at < degrees.len() {
-        pushes::offer_node(v, degrees, frontier);
+        // Lent anew first: if the field itself were lent to be read, the proof would know only its length afterwards.
+        let residual = &mut *frontier.residual;
+        frontier.queue = pushes::offer_node(
+            frontier.queue,
+            v,
+            degrees,
+            residual,
+            frontier.priorities,
+            frontier.nodes,
+            frontier.queued,
+        );
     }
 }
 

@@ -5,4 +5,4 @@ use Rattle.pushes.proofs.pass_on.Goals as goal
 
 pub returns-clause-moved : goal.returns-clause-moved
 unfolding gain state_in
-returns-clause-moved c = let o = c.offer_node.ensures.moved in record { lent = o.lent; state = o.state }
+returns-clause-moved c = let o = c.offer_node-frontier.ensures in record { lent = o.lent; state = o.state }
